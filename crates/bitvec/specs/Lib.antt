@@ -1,0 +1,3 @@
+pub mod Smtlib
+pub mod TwosComplement
+pub mod Bytes

@@ -1,0 +1,4 @@
+pub mod Carried
+pub mod Stored
+pub mod View
+pub mod Seen

@@ -1,0 +1,83 @@
+-- The view of the lent words: a put behind the last line adds that line and changes no other, and reading what was written gives it
+-- back. Assumes nothing.
+use Prim.Native.Nat.{ℕ, zero, suc, _+_, _*_, _/_, _≤_, _<_}
+use mathlib.Core.Path.{_≡_, refl, sym, ap, _∙_}
+use mathlib.Core.Bool.{Bool, true, false, cond}
+use mathlib.Core.List.{List, [], _∷_, _++_}
+use mathlib.Core.Logic.{⊎-elim}
+use native.Mathlib.Omega.{arith}
+use native.Mathlib.Nat.{add-zero, eq-or-lt-of-le}
+use native.Mathlib.Numerals.{add-one}
+use lib.ListN.{length, getD, length-append, List·getD-append}
+use lib.Seq.{getD-append-add}
+use Rattle.btor2.specs.declared.NodeType.{NodeType}
+use Rattle.btor2.specs.Op.{Bin, add, sub, mul, udiv, sdiv, urem, sll, srl, ult, Op, const, read, write, bin, uext, ite, eq, and, or, not, state, stateInit, next, input, bad, unknown}
+use Rattle.btor2.specs.Sort.{sortNumber, sortNumbered}
+use Rattle.btor2.proofs.Sort.{sort-back}
+use Rattle.btor2_list.specs.declared.Line.{Line}
+use Rattle.btor2_list.specs.Record.{stride, words, lineAt, holds, putAt}
+use Rattle.btor2_list.specs.Node.{Node, node, lineOf, opOf, nodeOf}
+use Rattle.btor2_list.specs.View.{view}
+use Rattle.btor2_list.proofs.Stored.{put-line, put-other}
+
+-- ---- a line that is written is read as itself
+
+pub node-back : (nid : ℕ) (o : Op ℕ) → nodeOf (lineOf nid o) ≡ node nid o
+unfolding opOf
+node-back nid (const s n) = rw sort-back
+node-back nid (read m a) = refl
+node-back nid (write m a v) = refl
+node-back nid (bin add a b) = refl
+node-back nid (bin sub a b) = refl
+node-back nid (bin mul a b) = refl
+node-back nid (bin udiv a b) = refl
+node-back nid (bin sdiv a b) = refl
+node-back nid (bin urem a b) = refl
+node-back nid (bin sll a b) = refl
+node-back nid (bin srl a b) = refl
+node-back nid (bin ult a b) = refl
+node-back nid (uext s a) = rw sort-back
+node-back nid (ite s c a b) = rw sort-back
+node-back nid (eq a b) = refl
+node-back nid (and s a b) = rw sort-back
+node-back nid (or s a b) = rw sort-back
+node-back nid (not s a) = rw sort-back
+node-back nid (state s m) = rw sort-back
+node-back nid (stateInit s a m) = rw sort-back
+node-back nid (next s a b) = rw sort-back
+node-back nid (input s m) = rw sort-back
+node-back nid (bad a m) = refl
+node-back nid unknown = refl
+
+-- ---- the view
+
+pub view-length : (ws : List ℕ) (n : ℕ) → length (view ws n) ≡ n
+unfolding view
+view-length ws zero = refl
+view-length ws (suc n) = length-append (view ws n) _ ∙ rw (view-length ws n) (omega arith)
+
+pub view-at : (ws : List ℕ) (n : ℕ) (d : Node) (p : ℕ) → p < n → getD (view ws n) p d ≡ nodeOf (lineAt ws (p * stride))
+unfolding view
+view-at ws zero d p h = absurd (omega arith)
+view-at ws (suc n) d p h =
+    ⊎-elim
+    (λ e. rw e (rw (view-length ws n, add-zero) at (getD-append-add (view ws n) (nodeOf (lineAt ws (n * stride)) ∷ []) 0 d)))
+    (λ l. List·getD-append (view ws n) _ d p (rw (view-length ws n) l) ∙ view-at ws n d p l)
+    (eq-or-lt-of-le {n = p} {m = n} (omega arith))
+
+-- a put at place n or later leaves the first n lines
+pub view-kept : (ws : List ℕ) (p : ℕ) (l : Line) (n : ℕ) → n ≤ p → view (putAt ws p l) n ≡ view ws n
+unfolding view
+view-kept ws p l zero h = refl
+view-kept ws p l (suc n) h =
+    let v = view-kept ws p l n (omega arith) in
+    let d = put-other ws p l n (omega arith) in
+    λ i. v i ++ (nodeOf (d i) ∷ [])
+
+-- and at place n is line n
+pub view-put : (ws : List ℕ) (n : ℕ) (l : Line) → holds ws n ≡ true → view (putAt ws n l) (n + 1) ≡ view ws n ++ (nodeOf l ∷ [])
+unfolding view
+view-put ws n l there =
+    let v = view-kept ws n l n (omega arith) in
+    let d = put-line ws n l there in
+    rw add-one (λ i. v i ++ (nodeOf (d i) ∷ []))

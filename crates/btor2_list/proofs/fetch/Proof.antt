@@ -1,0 +1,15 @@
+-- The record is read word by word. Assumes nothing.
+use mathlib.Core.Path.{refl}
+use Rattle.btor2_list.specs.Record.{lineAt}
+use borrow.Author.Needs.{needs}
+use Rattle.btor2_list.proofs.fetch.Statement.{statement}
+use Rattle.btor2_list.proofs.fetch.Tie as tie
+
+returns : tie.Need-returns
+unfolding lineAt
+returns c = refl
+
+pub fetch-spec : {M : Type 1} → statement M
+fetch-spec =
+    tie.close
+    (tie.spec (λ c. search needs) (λ c. search needs) (λ c. search needs) (λ c. search needs) (λ c. search needs) (λ c. search needs) (λ c. search needs) (λ c. search needs) (λ c. search needs) (λ c. search needs) (λ c. search needs) (λ c. search needs) (λ c. search needs) (λ c. search needs) (λ c. search needs) (λ c. search needs) (λ c. search needs) (λ c. search needs) (λ c. search needs) (λ c. search needs) (λ c. search needs) (λ c. search needs) (λ c. search needs) (λ c. search needs) (λ c. search needs) (λ c. search needs) (λ c. search needs) (λ c. search needs) (λ c. search needs) (λ c. search needs) returns)

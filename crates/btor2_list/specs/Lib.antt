@@ -1,0 +1,4 @@
+pub mod Record
+pub mod Node
+pub mod View
+pub mod Look

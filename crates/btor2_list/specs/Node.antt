@@ -1,0 +1,115 @@
+-- What a record says: a line's identifier and its operator, whose operands are places.
+use Prim.Native.Nat.{ℕ}
+use mathlib.Core.Bool.{cond}
+use mathlib.Core.List.{List, [], _∷_}
+use lib.Dec.{eqb}
+use Rattle.btor2.specs.declared.Name.{Name}
+use Rattle.btor2.specs.declared.NodeType.{NodeType}
+use Rattle.btor2.specs.declared.MaybeSort.{MaybeSort}
+use Rattle.btor2.specs.declared.MaybeSort.the-variants.{Sort, NoSort}
+use Rattle.btor2.specs.Sort.{sortNumber, sortNumbered}
+use Rattle.btor2.specs.Op.{Bin, add, sub, mul, udiv, sdiv, urem, sll, srl, ult, Op, const, read, write, bin, uext, ite, eq, and, or, not, state, stateInit, next, input, bad, unknown, binSort}
+use Rattle.btor2_list.specs.declared.Line.{Line}
+
+pub record Node : Type 0 where
+  pub nid : ℕ
+  pub op : Op ℕ
+
+abbrev pub node : ℕ → Op ℕ → Node
+node nid o = record { nid = nid; op = o }
+
+-- ---- the record that is written for a line
+
+abbrev pub noName : Name
+noName = record { area = 0; at = 0; len = 0 }
+
+-- the fields in their order: identifier, kind, sort as printed (for uext the one it extends from), operands, constant, name
+abbrev pub row : ℕ → ℕ → ℕ → ℕ → ℕ → ℕ → ℕ → Name → Line
+row nid kind sort op1 op2 op3 imm name = record {
+  nid = record { 0 = nid };
+  kind = kind;
+  sort = sort;
+  op1 = record { 0 = op1 };
+  op2 = record { 0 = op2 };
+  op3 = record { 0 = op3 };
+  imm = imm;
+  name = name;
+}
+
+abbrev pub binKind : Bin → ℕ
+binKind add = 4
+binKind sub = 5
+binKind mul = 6
+binKind udiv = 7
+binKind sdiv = 8
+binKind urem = 9
+binKind sll = 10
+binKind srl = 11
+binKind ult = 12
+
+-- kinds are numbered from 1 in the order of `Node`
+abbrev pub lineOf : ℕ → Op ℕ → Line
+lineOf nid (const s n) = row nid 1 (sortNumber s) 0 0 0 n noName
+lineOf nid (read m a) = row nid 2 2 m a 0 0 noName
+lineOf nid (write m a v) = row nid 3 3 m a v 0 noName
+lineOf nid (bin o a b) = row nid (binKind o) (sortNumber (binSort o)) a b 0 0 noName
+lineOf nid (uext s a) = row nid 13 (sortNumber s) a 0 0 0 noName
+lineOf nid (ite s c a b) = row nid 14 (sortNumber s) c a b 0 noName
+lineOf nid (eq a b) = row nid 15 1 a b 0 0 noName
+lineOf nid (and s a b) = row nid 16 (sortNumber s) a b 0 0 noName
+lineOf nid (or s a b) = row nid 17 (sortNumber s) a b 0 0 noName
+lineOf nid (not s a) = row nid 18 (sortNumber s) a 0 0 0 noName
+lineOf nid (state s m) = row nid 19 (sortNumber s) 0 0 0 0 m
+lineOf nid (stateInit s a m) = row nid 19 (sortNumber s) a 0 0 1 m
+lineOf nid (next s a b) = row nid 20 (sortNumber s) a b 0 0 noName
+lineOf nid (input s m) = row nid 21 (sortNumber s) 0 0 0 0 m
+lineOf nid (bad a m) = row nid 22 0 a 0 0 0 m
+lineOf nid unknown = row nid 0 0 0 0 0 0 noName
+
+-- ---- what a record is read as
+
+-- the operator at a number, in a table that starts at a number
+abbrev pub numbered : List (Op ℕ) → ℕ → ℕ → Op ℕ
+numbered [] from n = unknown
+numbered (o ∷ os) from n = cond (eqb n from) o (numbered os (ℕ.suc from) n)
+
+abbrev pub withSort : MaybeSort → (NodeType → Op ℕ) → Op ℕ
+withSort (Sort s) f = f s
+withSort NoSort f = unknown
+
+-- the fields that the kind does not use are not looked at
+unfoldable pub opOf : Line → Op ℕ
+opOf l =
+    let a = l .op1 .0 in
+    let b = l .op2 .0 in
+    let c = l .op3 .0 in
+    let m = l .name in
+    let sorted = withSort (sortNumbered (l .sort)) in
+    numbered
+    (sorted (λ s. const s (l .imm))
+    ∷ read a b
+    ∷ write a b c
+    ∷ bin add a b
+    ∷ bin sub a b
+    ∷ bin mul a b
+    ∷ bin udiv a b
+    ∷ bin sdiv a b
+    ∷ bin urem a b
+    ∷ bin sll a b
+    ∷ bin srl a b
+    ∷ bin ult a b
+    ∷ sorted (λ s. uext s a)
+    ∷ sorted (λ s. ite s a b c)
+    ∷ eq a b
+    ∷ sorted (λ s. and s a b)
+    ∷ sorted (λ s. or s a b)
+    ∷ sorted (λ s. not s a)
+    ∷ sorted (λ s. cond (eqb (l .imm) 0) (state s m) (stateInit s a m))
+    ∷ sorted (λ s. next s a b)
+    ∷ sorted (λ s. input s m)
+    ∷ bad a m
+    ∷ [])
+    1 (l .kind)
+
+abbrev pub nodeOf : Line → Node
+nodeOf l = node (l .nid .0) (opOf l)

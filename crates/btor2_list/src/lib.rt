@@ -1,0 +1,232 @@
+// The list of lines: records of numbers at a fixed stride in words that the host lends.
+use btor2::MaybeSort;
+use btor2::Name;
+use btor2::Nid;
+use btor2::NodeRef;
+use btor2::NodeType;
+use btor2::sort_of;
+ghost use mathlib.Core.Path.{_≡_};
+ghost use Prim.Native.Nat.{_+_, _≤_};
+ghost use lib.ListN.{length};
+ghost use lib.Seq.{sets};
+ghost use Rattle.btor2.specs.Op.{carried};
+ghost use Rattle.btor2_list.specs.declared.Line.{Line};
+ghost use Rattle.btor2_list.specs.Record.{words, lineAt, holds, putAt, getAt};
+ghost use Rattle.btor2_list.specs.Node.{opOf};
+ghost use Rattle.btor2_list.specs.Look.{lookAt};
+
+// The words of one record, and where each field stands in it.
+pub const STRIDE: usize = 10;
+
+pub const AT_NID: usize = 0;
+
+pub const AT_KIND: usize = 1;
+
+pub const AT_SORT: usize = 2;
+
+pub const AT_OP1: usize = 3;
+
+pub const AT_OP2: usize = 4;
+
+pub const AT_OP3: usize = 5;
+
+pub const AT_IMM: usize = 6;
+
+pub const AT_NAME_AREA: usize = 7;
+
+pub const AT_NAME_AT: usize = 8;
+
+pub const AT_NAME_LEN: usize = 9;
+
+// The kinds of a record, in the order of unicorn's `Node`.
+pub const CONST: u64 = 1;
+
+pub const READ: u64 = 2;
+
+pub const WRITE: u64 = 3;
+
+pub const ADD: u64 = 4;
+
+pub const SUB: u64 = 5;
+
+pub const MUL: u64 = 6;
+
+pub const DIVU: u64 = 7;
+
+pub const DIV: u64 = 8;
+
+pub const REM: u64 = 9;
+
+pub const SLL: u64 = 10;
+
+pub const SRL: u64 = 11;
+
+pub const ULT: u64 = 12;
+
+pub const EXT: u64 = 13;
+
+pub const ITE: u64 = 14;
+
+pub const EQ: u64 = 15;
+
+pub const AND: u64 = 16;
+
+pub const OR: u64 = 17;
+
+pub const NOT: u64 = 18;
+
+pub const STATE: u64 = 19;
+
+pub const NEXT: u64 = 20;
+
+pub const INPUT: u64 = 21;
+
+pub const BAD: u64 = 22;
+
+// The record of a line. Operands stand in printed order; a State's init is op1, and there where imm is not 0. A field that a kind does
+// not use is not looked at, and is 0 where we write the record.
+pub struct Line {
+    pub nid: Nid,
+    pub kind: u64,
+    pub sort: u64,
+    pub op1: NodeRef,
+    pub op2: NodeRef,
+    pub op3: NodeRef,
+    pub imm: u64,
+    pub name: Name,
+}
+
+// What stands at a place of the lent words.
+pub enum Found {
+    Line(Line),
+    Outside,
+}
+
+// What a place is to a line that names it: no line, a line with no value (Next, Bad, an unknown kind or sort), or a value of a sort.
+pub enum Looked {
+    Outside,
+    NoValue(Nid),
+    Value(Nid, NodeType),
+}
+
+// Stores a record at a place. Where the words do not reach that far, answers false and changes nothing.
+pub fn put(list: &mut [u64], place: NodeRef, line: Line) -> bool
+    ensures stored { λ r. ⌜ r ≡ holds (now (list .entry)) (place .0) ⌝ }
+    ensures list { λ r. ⌜ now (list .exit) ≡ putAt (now (list .entry)) (place .0) line ⌝ }
+{
+    let p = place.0;
+    if list.len() / STRIDE <= p {
+        return false;
+    }
+    store(list, p * STRIDE, line);
+    true
+}
+
+fn store(list: &mut [u64], at: usize, line: Line)
+    requires { ⌜ at + 10 ≤ length (now list) ⌝ }
+    ensures { λ _. ⌜ now (list .exit) ≡ sets (now (list .entry)) at (words line) ⌝ }
+{
+    list[at + AT_NID] = line.nid.0;
+    list[at + AT_KIND] = line.kind;
+    list[at + AT_SORT] = line.sort;
+    list[at + AT_OP1] = line.op1.0 as u64;
+    list[at + AT_OP2] = line.op2.0 as u64;
+    list[at + AT_OP3] = line.op3.0 as u64;
+    list[at + AT_IMM] = line.imm;
+    list[at + AT_NAME_AREA] = line.name.area;
+    list[at + AT_NAME_AT] = line.name.at;
+    list[at + AT_NAME_LEN] = line.name.len;
+}
+
+// The record at a place.
+pub fn get(list: &[u64], place: NodeRef) -> Found
+    ensures { λ r. ⌜ r ≡ getAt (now (list .entry)) (place .0) ⌝ }
+{
+    let p = place.0;
+    if list.len() / STRIDE <= p {
+        return Found::Outside;
+    }
+    Found::Line(fetch(list, p * STRIDE))
+}
+
+fn fetch(list: &[u64], at: usize) -> Line
+    requires { ⌜ at + 10 ≤ length (now list) ⌝ }
+    ensures { λ r. ⌜ r ≡ lineAt (now (list .entry)) at ⌝ }
+{
+    Line {
+        nid: Nid(list[at + AT_NID]),
+        kind: list[at + AT_KIND],
+        sort: list[at + AT_SORT],
+        op1: NodeRef(list[at + AT_OP1] as usize),
+        op2: NodeRef(list[at + AT_OP2] as usize),
+        op3: NodeRef(list[at + AT_OP3] as usize),
+        imm: list[at + AT_IMM],
+        name: Name {
+            area: list[at + AT_NAME_AREA],
+            at: list[at + AT_NAME_AT],
+            len: list[at + AT_NAME_LEN],
+        },
+    }
+}
+
+// What the place is to a line that names it, in a list of `lines` lines.
+pub fn look(list: &[u64], lines: usize, place: NodeRef) -> Looked
+    ensures { λ r. ⌜ r ≡ lookAt (now (list .entry)) lines (place .0) ⌝ }
+{
+    let p = place.0;
+    if lines <= p {
+        return Looked::Outside;
+    }
+    if list.len() / STRIDE <= p {
+        return Looked::Outside;
+    }
+    let at = p * STRIDE;
+    let nid = list[at + AT_NID];
+    let kind = list[at + AT_KIND];
+    let sort = list[at + AT_SORT];
+    match carries(kind, sort) {
+        MaybeSort::Sort(s) => Looked::Value(Nid(nid), s),
+        MaybeSort::NoSort => Looked::NoValue(Nid(nid)),
+    }
+}
+
+// The sort that every record of this kind and sort carries.
+fn carries(kind: u64, sort: u64) -> MaybeSort
+    ensures { λ r. ⌜ ((l : Line) → l .kind ≡ kind → l .sort ≡ sort → r ≡ carried (opOf l)) ⌝ }
+{
+    match kind {
+        CONST => sort_of(sort),
+        READ => MaybeSort::Sort(NodeType::Word),
+        WRITE => MaybeSort::Sort(NodeType::Memory),
+        ADD => MaybeSort::Sort(NodeType::Word),
+        SUB => MaybeSort::Sort(NodeType::Word),
+        MUL => MaybeSort::Sort(NodeType::Word),
+        DIVU => MaybeSort::Sort(NodeType::Word),
+        DIV => MaybeSort::Sort(NodeType::Word),
+        REM => MaybeSort::Sort(NodeType::Word),
+        SLL => MaybeSort::Sort(NodeType::Word),
+        SRL => MaybeSort::Sort(NodeType::Word),
+        ULT => MaybeSort::Sort(NodeType::Bit),
+        EXT => extended(sort),
+        ITE => sort_of(sort),
+        EQ => MaybeSort::Sort(NodeType::Bit),
+        AND => sort_of(sort),
+        OR => sort_of(sort),
+        NOT => sort_of(sort),
+        STATE => sort_of(sort),
+        NEXT => MaybeSort::NoSort,
+        INPUT => sort_of(sort),
+        BAD => MaybeSort::NoSort,
+        _ => MaybeSort::NoSort,
+    }
+}
+
+// A Word, where the sort that it is extended from is known.
+fn extended(from: u64) -> MaybeSort
+    ensures { λ r. ⌜ ((l : Line) → l .kind ≡ 13 → l .sort ≡ from → r ≡ carried (opOf l)) ⌝ }
+{
+    match sort_of(from) {
+        MaybeSort::Sort(_) => MaybeSort::Sort(NodeType::Word),
+        MaybeSort::NoSort => MaybeSort::NoSort,
+    }
+}

@@ -1,0 +1,28 @@
+-- Only the shifts by an immediate are looked at. Assumes nothing.
+use mathlib.Core.Path.{sym}
+use mathlib.Core.Bool.{or-false}
+use borrow.Author.Tests.{ne-eqb}
+use Rattle.riscv.proofs.Numbered.{number-at}
+use Rattle.riscv.proofs.amount_out.Statement.{statement}
+use Rattle.riscv.proofs.amount_out.Tie as tie
+
+returns : tie.Need-returns
+returns c = rw (c .match .keys1) (sym (or-false _))
+
+returns-2 : tie.Need-returns-2
+returns-2 c = rw (c .match .keys2) (sym (or-false _))
+
+returns-3 : tie.Need-returns-3
+returns-3 c = rw (c .match .keys3) (sym (or-false _))
+
+returns-4 : tie.Need-returns-4
+returns-4 c = rw (c .match .keys4) (sym (or-false _))
+
+returns-5 : tie.Need-returns-5
+returns-5 c = rw (c .match .keys5)
+
+returns-6 : tie.Need-returns-6
+returns-6 c = simp (number-at _ (c .before .pre), ne-eqb _ _ (c .match .rest .0 .0 .0 .0 .1), ne-eqb _ _ (c .match .rest .0 .0 .0 .1), ne-eqb _ _ (c .match .rest .0 .0 .1), ne-eqb _ _ (c .match .rest .0 .1), ne-eqb _ _ (c .match .rest .1))
+
+pub amount-out-spec : {M : Type 1} → statement M
+amount-out-spec = tie.close (tie.spec returns returns-2 returns-3 returns-4 returns-5 returns-6)

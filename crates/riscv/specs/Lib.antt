@@ -1,0 +1,4 @@
+pub mod Kind
+pub mod Format
+pub mod Refusal
+pub mod Manual
