@@ -4,10 +4,12 @@ use mathlib.Core.Bool.{Bool, true, false, _&&_}
 use native.Mathlib.Nat.{mod-lt, div-le-self, mod-le, lt-of-le-of-lt, mul-suc}
 use native.Mathlib.Omega.{arith}
 use lib.Dec.{ltb, leb, eqb, lit<}
+use lib.IntN.{ℤ, pos, negsuc}
+use lib.Signed.{quotZ}
 use lib.Pow.{pow-pos, pow-add, ones-sub-lt, ones-lt}
 use lib.Bits.{and-le-l, or-lt}
 use Rattle.bitvec.specs.Smtlib.{bvadd, bvsub, bvmul, bvneg, bvnot, bvand, bvudiv, bvurem, bvsdiv, bvlshr, bvult, bvor, bvcomp, bit}
-use Rattle.bitvec.specs.TwosComplement.{sext, sra}
+use Rattle.bitvec.specs.TwosComplement.{sext, sra, sltu, slt, signed, bitsOf, quot}
 use Rattle.bitvec.specs.Bytes.{byteOf, load, store}
 use Rattle.bitvec.proofs.Composed.{sraLines}
 use Rattle.bitvec.proofs.Base.{by-le, by-signs, neg-yes, neg-no, lshr-is, lshr-past}
@@ -100,3 +102,25 @@ comp-fits a b = bit-fits (eqb a b)
 pub ult-fits : (a b : ℕ) → bvult a b < 2
 unfolding bvult
 ult-fits a b = bit-fits (ltb a b)
+
+pub sltu-fits : (x y : ℕ) → sltu x y < 2
+unfolding sltu
+sltu-fits x y = bit-fits (ltb x y)
+
+pub slt-fits : (w x y : ℕ) → slt w x y < 2
+unfolding slt
+slt-fits w x y =
+    by-signs w x y
+    (λ nx ny. rw (neg-yes w nx, neg-yes w ny, slt) (sltu-fits x y))
+    (λ nx py. rw (neg-yes w nx, neg-no w py, slt) (lit< tt))
+    (λ px ny. rw (neg-no w px, neg-yes w ny, slt) (lit< tt))
+    (λ px py. rw (neg-no w px, neg-no w py, slt) (sltu-fits x y))
+
+pub bits-fits : (w : ℕ) (z : ℤ) → bitsOf w z < 2 ^ w
+unfolding bitsOf
+bits-fits w (pos n) = mod-lt n (pow-pos w)
+bits-fits w (negsuc n) = omega (arith, pow-pos w)
+
+pub quot-fits : (w x y : ℕ) → quot w x y < 2 ^ w
+unfolding quot
+quot-fits w x y = bits-fits w (quotZ (signed w x) (signed w y))

@@ -130,8 +130,8 @@ mag-neg zero h l = l
 mag-neg (suc q) h l = h
 
 -- every quotient but the least number's by -1 fits
-pub quot-fits : (k x y : ℕ) → zero < k → x < 2 ^ k → y < 2 ^ k → zero < y → ¬ ((x ≡ 2 ^ (k - 1)) × (y ≡ 2 ^ k - 1)) → mag (quotZ (signed k x) (signed k y)) < 2 ^ (k - 1)
-quot-fits k x y k0 hx hy y0 no-over =
+pub quot-mag : (k x y : ℕ) → zero < k → x < 2 ^ k → y < 2 ^ k → zero < y → ¬ ((x ≡ 2 ^ (k - 1)) × (y ≡ 2 ^ k - 1)) → mag (quotZ (signed k x) (signed k y)) < 2 ^ (k - 1)
+quot-mag k x y k0 hx hy y0 no-over =
     by-signs k x y
     (λ nx ny.
     rw (signed-neg k nx, signed-neg k ny)
@@ -149,7 +149,7 @@ unfolding quot
 divw k w x y k0 kw y0 no-over =
     sdiv-quot w (sext k w x) (sext k w y) (sext-lt k w x kw) (sext-lt k w y kw) (lt-of-lt-of-le (rw (← (sext-low k w y kw)) at y0) (mod-le (sext k w y) (2 ^ k)))
     ∙ rw (signed-sext k w x k0 kw, signed-sext k w y k0 kw)
-    (sym (sext-bits k w _ k0 kw (quot-fits k (x % 2 ^ k) (y % 2 ^ k) k0 (mod-lt x (pow-pos k)) (mod-lt y (pow-pos k)) y0 no-over)))
+    (sym (sext-bits k w _ k0 kw (quot-mag k (x % 2 ^ k) (y % 2 ^ k) k0 (mod-lt x (pow-pos k)) (mod-lt y (pow-pos k)) y0 no-over)))
 
 -- ---- sext, sra and slt are what they are of signed numbers
 

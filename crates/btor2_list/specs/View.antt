@@ -1,7 +1,6 @@
 -- The lines that the lent words stand for.
 use Prim.Native.Nat.{ℕ, zero, suc, _*_}
-use mathlib.Core.List.{List, [], _∷_, _++_, map}
-use Rattle.btor2.specs.Op.{Op}
+use mathlib.Core.List.{List, [], _∷_, _++_}
 use Rattle.btor2_list.specs.Record.{stride, lineAt}
 use Rattle.btor2_list.specs.Node.{Node, nodeOf}
 
@@ -9,7 +8,3 @@ use Rattle.btor2_list.specs.Node.{Node, nodeOf}
 unfoldable pub view : List ℕ → ℕ → List Node
 view ws zero = []
 view ws (suc n) = view ws n ++ (nodeOf (lineAt ws (n * stride)) ∷ [])
-
--- without their identifiers
-abbrev pub ops : List Node → List (Op ℕ)
-ops ns = map (λ (n : Node). n .op) ns

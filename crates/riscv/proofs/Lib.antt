@@ -1,2 +1,4 @@
 pub mod Below
 pub mod Numbered
+pub mod InOneCell
+mod Examples

@@ -161,72 +161,20 @@ pub fn check(i: Instruction) -> u64
     0
 }
 
-// The formats of the kinds: R 0, I 1, S 2, B 3, U 4, J 5, System 6.
-const FORMATS: [u8; 50] = [
-    4,
-    4,
-    1,
-    1,
-    1,
-    1,
-    1,
-    1,
-    2,
-    2,
-    2,
-    2,
-    1,
-    1,
-    1,
-    1,
-    1,
-    1,
-    1,
-    1,
-    1,
-    1,
-    1,
-    1,
-    0,
-    0,
-    0,
-    0,
-    0,
-    0,
-    0,
-    0,
-    0,
-    0,
-    0,
-    0,
-    0,
-    0,
-    0,
-    0,
-    0,
-    3,
-    3,
-    3,
-    3,
-    3,
-    3,
-    5,
-    1,
-    6,
-];
-
+// The format of a kind, by its letter; Ecall has none.
 fn format_of(kind: usize) -> Format
     requires { ⌜ kind < 50 ⌝ }
     ensures { λ r. ⌜ r ≡ format (kindAt kind) ⌝ }
 {
-    let number = FORMATS[kind];
-    match number {
-        0 => Format::R,
-        1 => Format::I,
-        2 => Format::S,
-        3 => Format::B,
-        4 => Format::U,
-        5 => Format::J,
+    let letters = b"UUIIIIIISSSSIIIIIIIIIIIIRRRRRRRRRRRRRRRRRBBBBBBJI-";
+    let letter = letters[kind];
+    match letter {
+        b'R' => Format::R,
+        b'I' => Format::I,
+        b'S' => Format::S,
+        b'B' => Format::B,
+        b'U' => Format::U,
+        b'J' => Format::J,
         _ => Format::System,
     }
 }
@@ -324,61 +272,7 @@ fn zero_srliw(kind: u64, imm: u64) -> bool
     imm == 0
 }
 
-// The kinds that must not write x0, by a 1: those that write rd, other than Addi, Jal and Jalr.
-const NOT_X0: [u8; 50] = [
-    1,
-    1,
-    1,
-    1,
-    1,
-    1,
-    1,
-    1,
-    0,
-    0,
-    0,
-    0,
-    0,
-    1,
-    1,
-    1,
-    1,
-    1,
-    1,
-    1,
-    1,
-    1,
-    1,
-    1,
-    1,
-    1,
-    1,
-    1,
-    1,
-    1,
-    1,
-    1,
-    1,
-    1,
-    1,
-    1,
-    1,
-    1,
-    1,
-    1,
-    1,
-    0,
-    0,
-    0,
-    0,
-    0,
-    0,
-    0,
-    0,
-    0,
-];
-
-// 5: rd is x0.
+// 5: rd is x0, of a kind that writes rd, other than Addi, Jal and Jalr (a `d`).
 fn zero_rd(kind: usize, rd: u64) -> bool
     requires { ⌜ kind < 50 ⌝ }
     ensures { λ r. ⌜ r ≡ zeroRd (kindAt kind) rd ⌝ }
@@ -386,7 +280,8 @@ fn zero_rd(kind: usize, rd: u64) -> bool
     if rd != 0 {
         return false;
     }
-    NOT_X0[kind] == 1
+    let marks = b"dddddddd-----dddddddddddddddddddddddddddd---------";
+    marks[kind] == b'd'
 }
 
 // 6: Jalr under a register with an offset.

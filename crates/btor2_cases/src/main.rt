@@ -1,0 +1,147 @@
+// Runs the lent list, the lookup and the names on the commands of standard input, a line each:
+//   1 PLACE NID KIND SORT OP1 OP2 OP3 IMM AREA AT LEN   puts a record into a list of four records and three words
+//   2 PLACE                                             gets one
+//   3 LINES PLACE                                       looks a place up
+//   4 AREA AT LEN                                       finds a name in `host` or in `own area`
+use btor2::Name;
+use btor2::Nid;
+use btor2::NodeRef;
+use btor2::get_sort;
+use btor2_list::Found;
+use btor2_list::Line;
+use btor2_list::Looked;
+use decimal_text::read_decimal;
+use libc::STDIN_FILENO;
+use libc::STDOUT_FILENO;
+
+fn main() {
+    let mut buffer = [0u8; 65536];
+    let n = io::read_full(STDIN_FILENO, &mut buffer);
+    let mut list = [0u64; 43];
+    run(&buffer[..n], &mut list);
+}
+
+fn run(text: &[u8], list: &mut [u64]) {
+    let mut at = 0;
+    while at < text.len() {
+        let next = run_line(text, at, list);
+        if next <= at {
+            return;
+        }
+        at = next;
+    }
+}
+
+// One command; the answer is where the next one starts.
+fn run_line(text: &[u8], at: usize, list: &mut [u64]) -> usize {
+    let command = read_decimal(text, at);
+    let from = command.next;
+    let which = command.value;
+    if which == 1 {
+        return run_put(text, from, list);
+    }
+    if which == 2 {
+        return run_get(text, from, list);
+    }
+    if which == 3 {
+        return run_look(text, from, list);
+    }
+    run_name(text, from)
+}
+
+fn run_put(text: &[u8], at: usize, list: &mut [u64]) -> usize {
+    let place = read_decimal(text, at);
+    let nid = read_decimal(text, place.next);
+    let kind = read_decimal(text, nid.next);
+    let sort = read_decimal(text, kind.next);
+    let op1 = read_decimal(text, sort.next);
+    let op2 = read_decimal(text, op1.next);
+    let op3 = read_decimal(text, op2.next);
+    let imm = read_decimal(text, op3.next);
+    let area = read_decimal(text, imm.next);
+    let from = read_decimal(text, area.next);
+    let len = read_decimal(text, from.next);
+    let line = Line {
+        nid: Nid(nid.value),
+        kind: kind.value,
+        sort: sort.value,
+        op1: NodeRef(op1.value as usize),
+        op2: NodeRef(op2.value as usize),
+        op3: NodeRef(op3.value as usize),
+        imm: imm.value,
+        name: Name {
+            area: area.value,
+            at: from.value,
+            len: len.value,
+        },
+    };
+    if btor2_list::put(list, NodeRef(place.value as usize), line) {
+        io::write_all(STDOUT_FILENO, b"put\n");
+    } else {
+        io::write_all(STDOUT_FILENO, b"outside\n");
+    }
+    len.next
+}
+
+fn run_get(text: &[u8], at: usize, list: &[u64]) -> usize {
+    let place = read_decimal(text, at);
+    match btor2_list::get(list, NodeRef(place.value as usize)) {
+        Found::Line(line) => show_line(line),
+        Found::Outside => {
+            io::write_all(STDOUT_FILENO, b"outside\n");
+        }
+    }
+    place.next
+}
+
+fn show_line(line: Line) {
+    show(line.nid.0, b" ");
+    show(line.kind, b" ");
+    show(line.sort, b" ");
+    show(line.op1.0 as u64, b" ");
+    show(line.op2.0 as u64, b" ");
+    show(line.op3.0 as u64, b" ");
+    show(line.imm, b" ");
+    show(line.name.area, b" ");
+    show(line.name.at, b" ");
+    show(line.name.len, b"\n");
+}
+
+fn run_look(text: &[u8], at: usize, list: &[u64]) -> usize {
+    let lines = read_decimal(text, at);
+    let place = read_decimal(text, lines.next);
+    match btor2_list::look(list, lines.value as usize, NodeRef(place.value as usize)) {
+        Looked::Outside => {
+            io::write_all(STDOUT_FILENO, b"outside\n");
+        }
+        Looked::NoValue(nid) => show(nid.0, b" no value\n"),
+        Looked::Value(nid, sort) => {
+            show(nid.0, b" value of sort ");
+            show(get_sort(sort), b"\n");
+        }
+    }
+    place.next
+}
+
+fn run_name(text: &[u8], at: usize) -> usize {
+    let area = read_decimal(text, at);
+    let from = read_decimal(text, area.next);
+    let len = read_decimal(text, from.next);
+    let name = Name {
+        area: area.value,
+        at: from.value,
+        len: len.value,
+    };
+    io::write_all(STDOUT_FILENO, b"[");
+    io::write_all(
+        STDOUT_FILENO,
+        btor2_name::name_bytes(b"host", b"own area", name),
+    );
+    io::write_all(STDOUT_FILENO, b"]\n");
+    len.next
+}
+
+fn show(n: u64, after: &[u8]) {
+    io::print_decimal(STDOUT_FILENO, n);
+    io::write_all(STDOUT_FILENO, after);
+}

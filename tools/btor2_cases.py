@@ -1,0 +1,82 @@
+#!/usr/bin/env python3
+"""Commands for the lent list, the lookup and the names, with what they must answer.
+
+    tools/btor2_cases.py stdin    crates/btor2_cases/stdin: a command to a line
+    tools/btor2_cases.py stdout   crates/btor2_cases/stdout: the answers
+
+The answers are read off document 01 and unicorn's mod.rs below, and share nothing with the project's definitions and code.
+"""
+import sys
+
+KINDS = (
+    "Const Read Write Add Sub Mul Divu Div Rem Sll Srl Ult Ext Ite Eq And Or Not State Next Input Bad".split()
+)
+SORTS = (1, 2, 3, *range(11, 18))
+WORD_RESULT = {"Read", "Add", "Sub", "Mul", "Divu", "Div", "Rem", "Sll", "Srl"}
+HOLDS = 4
+TOP = 2**64 - 1
+
+
+def carried(kind, sort):
+    """The sort of the value that a record carries, or None."""
+    if not 1 <= kind <= len(KINDS):
+        return None
+    name = KINDS[kind - 1]
+    if name in WORD_RESULT:
+        return 2
+    if name == "Write":
+        return 3
+    if name in ("Ult", "Eq"):
+        return 1
+    if name in ("Next", "Bad") or sort not in SORTS:
+        return None
+    return 2 if name == "Ext" else sort
+
+
+def commands():
+    """Pairs of a command and its answer."""
+    records = [[0] * 10 for _ in range(HOLDS)]
+
+    def put(place, *fields):
+        if place < HOLDS:
+            records[place] = list(fields)
+        return (1, place, *fields), "put" if place < HOLDS else "outside"
+
+    def get(place):
+        return (2, place), " ".join(map(str, records[place])) if place < HOLDS else "outside"
+
+    def look(lines, place):
+        if not (place < lines and place < HOLDS):
+            return (3, lines, place), "outside"
+        nid, kind, sort = records[place][:3]
+        s = carried(kind, sort)
+        return (3, lines, place), f"{nid} no value" if s is None else f"{nid} value of sort {s}"
+
+    def name(area, at, length):
+        text = {1: "host", 2: "own area"}.get(area, "")
+        return (4, area, at, length), "[" + (text[at : at + length] if at + length <= len(text) else "") + "]"
+
+    yield get(0)
+    yield look(1, 0)
+    for place in (3, 0, 2, 4, 5, TOP // 10, TOP):  # the last one that fits, and past it; all words as large as can be
+        yield put(place, *(TOP - i for i in range(10)))
+        yield get(place)
+        for other in range(HOLDS):
+            yield get(other)
+    for kind in (*range(0, 24), TOP):
+        for sort in (0, 1, 2, 3, 4, 10, 11, 17, 18, TOP):
+            yield put(1, 100 + kind % 100, kind, sort, 0, 0, 0, 0, 0, 0, 0)
+            yield look(4, 1)
+    for init in (0, 1, 2):
+        yield put(1, 55, 19, 2, 7, 8, 9, init, 1, 0, 4)
+        yield look(2, 1)
+    for lines, place in ((0, 0), (1, 1), (2, 1), (4, 3), (5, 4), (TOP, 4), (TOP, TOP)):
+        yield look(lines, place)
+    for area in (0, 1, 2, 3, TOP):
+        for at, length in ((0, 0), (0, 4), (1, 3), (1, 4), (4, 0), (4, 4), (5, 0), (0, 8), (0, 9), (8, 0), (9, 0), (TOP, 1), (1, TOP), (TOP, TOP)):
+            yield name(area, at, length)
+
+
+if __name__ == "__main__":
+    for command, answer in commands():
+        print(*command) if sys.argv[1:] == ["stdin"] else print(answer)
