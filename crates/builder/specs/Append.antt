@@ -1,0 +1,37 @@
+-- One more line, where the lent words hold it (unicorn's `add_node`).
+use Prim.Native.Nat.{ℕ, _+_, _%_, _^_}
+use mathlib.Core.List.{List}
+use mathlib.Core.Bool.{cond}
+use Rattle.btor2.specs.Op.{Op}
+use Rattle.btor2_list.specs.declared.Line.{Line}
+use Rattle.btor2_list.specs.Record.{holds, putAt}
+use Rattle.btor2_list.specs.Node.{lineOf}
+use Rattle.program.specs.Prog.{Run, ran}
+use Rattle.builder.specs.declared.Made.{Made}
+use Rattle.builder.specs.declared.Tally.{Tally}
+
+-- the lent words, and the tally
+pub record Store : Type 0 where
+  pub words : List ℕ
+  pub tally : Tally
+
+abbrev pub at : List ℕ → Tally → Store
+at ws t = record { words = ws; tally = t }
+
+-- what a function gave, with the words as it left them; a place is its number
+abbrev pub made : List ℕ → Made → Run Store ℕ
+made ws r = ran (at ws (r .tally)) (r .node .0)
+
+-- the tally after one more line
+abbrev pub counted : Tally → Tally
+counted t = record { lines = t .lines + 1; nid = (t .nid + 1) % 2 ^ 64 }
+
+unfoldable pub appendLine : Store → Line → Run Store ℕ
+appendLine st l =
+    cond (holds (st .words) (st .tally .lines))
+    (ran (at (putAt (st .words) (st .tally .lines) l) (counted (st .tally))) (st .tally .lines))
+    (ran st (st .tally .lines))
+
+-- a line under the next identifier
+abbrev pub append : Store → Op ℕ → Run Store ℕ
+append st o = appendLine st (lineOf (st .tally .nid) o)

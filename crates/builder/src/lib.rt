@@ -1,0 +1,491 @@
+// The tally of lines and identifiers, the append, and the operators of one line (unicorn's `add_node` and `new_*`). The append is total:
+// where the lent words hold no further record it changes nothing.
+use btor2::Name;
+use btor2::Nid;
+use btor2::NodeRef;
+use btor2::NodeType;
+use btor2::get_sort;
+use btor2_list::ADD;
+use btor2_list::AND;
+use btor2_list::BAD;
+use btor2_list::CONST;
+use btor2_list::DIV;
+use btor2_list::DIVU;
+use btor2_list::EQ;
+use btor2_list::EXT;
+use btor2_list::ITE;
+use btor2_list::Line;
+use btor2_list::MUL;
+use btor2_list::NOT;
+use btor2_list::READ;
+use btor2_list::REM;
+use btor2_list::SLL;
+use btor2_list::SRL;
+use btor2_list::SUB;
+use btor2_list::ULT;
+use btor2_list::WRITE;
+ghost use mathlib.Core.Path.{_≡_};
+ghost use Rattle.btor2.specs.Op.{add, sub, mul, udiv, sdiv, urem, sll, srl, ult};
+ghost use Rattle.btor2_list.specs.Node.{row};
+ghost use Rattle.program.specs.OneLine.{newConst, newRead, newWrite, newBin, newExt, newIte, newEq, newAndBit, newAndWord, newNotBit, newNotWord, newBad};
+ghost use Rattle.builder.specs.Append.{appendLine, at, made};
+ghost use Rattle.builder.specs.Gives.{Gives};
+
+// The count of lines, and the next identifier.
+pub struct Tally {
+    pub lines: usize,
+    pub nid: u64,
+}
+
+// What an append gives: the tally after it, and the new line's place.
+pub struct Made {
+    pub tally: Tally,
+    pub node: NodeRef,
+}
+
+// The sorts as printed.
+const BIT: u64 = 1;
+
+const WORD: u64 = 2;
+
+const MEMORY: u64 = 3;
+
+// Appends a line of these fields under the next identifier.
+pub fn append(
+    list: &mut [u64],
+    t: Tally,
+    kind: u64,
+    sort: u64,
+    op1: NodeRef,
+    op2: NodeRef,
+    op3: NodeRef,
+    imm: u64,
+    name: Name,
+) -> Made
+    ensures { λ r. ⌜ made (now (list .exit)) r ≡ appendLine (at (now (list .entry)) t) (row (t .nid) kind sort (op1 .0) (op2 .0) (op3 .0) imm name) ⌝ }
+{
+    let lines = t.lines;
+    let nid = t.nid;
+    let line = Line {
+        nid: Nid(nid),
+        kind,
+        sort,
+        op1,
+        op2,
+        op3,
+        imm,
+        name,
+    };
+    if btor2_list::put(list, NodeRef(lines), line) {
+        return Made {
+            tally: Tally {
+                lines: lines + 1,
+                nid: std::num::wrapping_add_u64(nid, 1),
+            },
+            node: NodeRef(lines),
+        };
+    }
+    Made {
+        tally: t,
+        node: NodeRef(lines),
+    }
+}
+
+pub fn new_const(list: &mut [u64], t: Tally, imm: u64) -> Made
+    ensures { λ r. ⌜ Gives (now (list .entry)) t (newConst imm) (now (list .exit)) (r .tally) (r .node .0) ⌝ }
+{
+    append(
+        list,
+        t,
+        CONST,
+        WORD,
+        NodeRef(0),
+        NodeRef(0),
+        NodeRef(0),
+        imm,
+        Name {
+            area: 0,
+            at: 0,
+            len: 0,
+        },
+    )
+}
+
+pub fn new_read(list: &mut [u64], t: Tally, memory: NodeRef, address: NodeRef) -> Made
+    ensures { λ r. ⌜ Gives (now (list .entry)) t (newRead (memory .0) (address .0)) (now (list .exit)) (r .tally) (r .node .0) ⌝ }
+{
+    append(
+        list,
+        t,
+        READ,
+        WORD,
+        memory,
+        address,
+        NodeRef(0),
+        0,
+        Name {
+            area: 0,
+            at: 0,
+            len: 0,
+        },
+    )
+}
+
+pub fn new_write(
+    list: &mut [u64],
+    t: Tally,
+    memory: NodeRef,
+    address: NodeRef,
+    value: NodeRef,
+) -> Made
+    ensures { λ r. ⌜ Gives (now (list .entry)) t (newWrite (memory .0) (address .0) (value .0)) (now (list .exit)) (r .tally) (r .node .0) ⌝ }
+{
+    append(
+        list,
+        t,
+        WRITE,
+        MEMORY,
+        memory,
+        address,
+        value,
+        0,
+        Name {
+            area: 0,
+            at: 0,
+            len: 0,
+        },
+    )
+}
+
+pub fn new_add(list: &mut [u64], t: Tally, left: NodeRef, right: NodeRef) -> Made
+    ensures { λ r. ⌜ Gives (now (list .entry)) t (newBin add (left .0) (right .0)) (now (list .exit)) (r .tally) (r .node .0) ⌝ }
+{
+    append(
+        list,
+        t,
+        ADD,
+        WORD,
+        left,
+        right,
+        NodeRef(0),
+        0,
+        Name {
+            area: 0,
+            at: 0,
+            len: 0,
+        },
+    )
+}
+
+pub fn new_sub(list: &mut [u64], t: Tally, left: NodeRef, right: NodeRef) -> Made
+    ensures { λ r. ⌜ Gives (now (list .entry)) t (newBin sub (left .0) (right .0)) (now (list .exit)) (r .tally) (r .node .0) ⌝ }
+{
+    append(
+        list,
+        t,
+        SUB,
+        WORD,
+        left,
+        right,
+        NodeRef(0),
+        0,
+        Name {
+            area: 0,
+            at: 0,
+            len: 0,
+        },
+    )
+}
+
+pub fn new_mul(list: &mut [u64], t: Tally, left: NodeRef, right: NodeRef) -> Made
+    ensures { λ r. ⌜ Gives (now (list .entry)) t (newBin mul (left .0) (right .0)) (now (list .exit)) (r .tally) (r .node .0) ⌝ }
+{
+    append(
+        list,
+        t,
+        MUL,
+        WORD,
+        left,
+        right,
+        NodeRef(0),
+        0,
+        Name {
+            area: 0,
+            at: 0,
+            len: 0,
+        },
+    )
+}
+
+pub fn new_divu(list: &mut [u64], t: Tally, left: NodeRef, right: NodeRef) -> Made
+    ensures { λ r. ⌜ Gives (now (list .entry)) t (newBin udiv (left .0) (right .0)) (now (list .exit)) (r .tally) (r .node .0) ⌝ }
+{
+    append(
+        list,
+        t,
+        DIVU,
+        WORD,
+        left,
+        right,
+        NodeRef(0),
+        0,
+        Name {
+            area: 0,
+            at: 0,
+            len: 0,
+        },
+    )
+}
+
+pub fn new_div(list: &mut [u64], t: Tally, left: NodeRef, right: NodeRef) -> Made
+    ensures { λ r. ⌜ Gives (now (list .entry)) t (newBin sdiv (left .0) (right .0)) (now (list .exit)) (r .tally) (r .node .0) ⌝ }
+{
+    append(
+        list,
+        t,
+        DIV,
+        WORD,
+        left,
+        right,
+        NodeRef(0),
+        0,
+        Name {
+            area: 0,
+            at: 0,
+            len: 0,
+        },
+    )
+}
+
+pub fn new_rem(list: &mut [u64], t: Tally, left: NodeRef, right: NodeRef) -> Made
+    ensures { λ r. ⌜ Gives (now (list .entry)) t (newBin urem (left .0) (right .0)) (now (list .exit)) (r .tally) (r .node .0) ⌝ }
+{
+    append(
+        list,
+        t,
+        REM,
+        WORD,
+        left,
+        right,
+        NodeRef(0),
+        0,
+        Name {
+            area: 0,
+            at: 0,
+            len: 0,
+        },
+    )
+}
+
+pub fn new_sll(list: &mut [u64], t: Tally, left: NodeRef, right: NodeRef) -> Made
+    ensures { λ r. ⌜ Gives (now (list .entry)) t (newBin sll (left .0) (right .0)) (now (list .exit)) (r .tally) (r .node .0) ⌝ }
+{
+    append(
+        list,
+        t,
+        SLL,
+        WORD,
+        left,
+        right,
+        NodeRef(0),
+        0,
+        Name {
+            area: 0,
+            at: 0,
+            len: 0,
+        },
+    )
+}
+
+pub fn new_srl(list: &mut [u64], t: Tally, left: NodeRef, right: NodeRef) -> Made
+    ensures { λ r. ⌜ Gives (now (list .entry)) t (newBin srl (left .0) (right .0)) (now (list .exit)) (r .tally) (r .node .0) ⌝ }
+{
+    append(
+        list,
+        t,
+        SRL,
+        WORD,
+        left,
+        right,
+        NodeRef(0),
+        0,
+        Name {
+            area: 0,
+            at: 0,
+            len: 0,
+        },
+    )
+}
+
+pub fn new_ult(list: &mut [u64], t: Tally, left: NodeRef, right: NodeRef) -> Made
+    ensures { λ r. ⌜ Gives (now (list .entry)) t (newBin ult (left .0) (right .0)) (now (list .exit)) (r .tally) (r .node .0) ⌝ }
+{
+    append(
+        list,
+        t,
+        ULT,
+        BIT,
+        left,
+        right,
+        NodeRef(0),
+        0,
+        Name {
+            area: 0,
+            at: 0,
+            len: 0,
+        },
+    )
+}
+
+pub fn new_ext(list: &mut [u64], t: Tally, from: NodeType, value: NodeRef) -> Made
+    ensures { λ r. ⌜ Gives (now (list .entry)) t (newExt from (value .0)) (now (list .exit)) (r .tally) (r .node .0) ⌝ }
+{
+    append(
+        list,
+        t,
+        EXT,
+        get_sort(from),
+        value,
+        NodeRef(0),
+        NodeRef(0),
+        0,
+        Name {
+            area: 0,
+            at: 0,
+            len: 0,
+        },
+    )
+}
+
+pub fn new_ite(
+    list: &mut [u64],
+    t: Tally,
+    sort: NodeType,
+    cond: NodeRef,
+    left: NodeRef,
+    right: NodeRef,
+) -> Made
+    ensures { λ r. ⌜ Gives (now (list .entry)) t (newIte sort (cond .0) (left .0) (right .0)) (now (list .exit)) (r .tally) (r .node .0) ⌝ }
+{
+    append(
+        list,
+        t,
+        ITE,
+        get_sort(sort),
+        cond,
+        left,
+        right,
+        0,
+        Name {
+            area: 0,
+            at: 0,
+            len: 0,
+        },
+    )
+}
+
+pub fn new_eq(list: &mut [u64], t: Tally, left: NodeRef, right: NodeRef) -> Made
+    ensures { λ r. ⌜ Gives (now (list .entry)) t (newEq (left .0) (right .0)) (now (list .exit)) (r .tally) (r .node .0) ⌝ }
+{
+    append(
+        list,
+        t,
+        EQ,
+        BIT,
+        left,
+        right,
+        NodeRef(0),
+        0,
+        Name {
+            area: 0,
+            at: 0,
+            len: 0,
+        },
+    )
+}
+
+pub fn new_and_bit(list: &mut [u64], t: Tally, left: NodeRef, right: NodeRef) -> Made
+    ensures { λ r. ⌜ Gives (now (list .entry)) t (newAndBit (left .0) (right .0)) (now (list .exit)) (r .tally) (r .node .0) ⌝ }
+{
+    append(
+        list,
+        t,
+        AND,
+        BIT,
+        left,
+        right,
+        NodeRef(0),
+        0,
+        Name {
+            area: 0,
+            at: 0,
+            len: 0,
+        },
+    )
+}
+
+pub fn new_and_word(list: &mut [u64], t: Tally, left: NodeRef, right: NodeRef) -> Made
+    ensures { λ r. ⌜ Gives (now (list .entry)) t (newAndWord (left .0) (right .0)) (now (list .exit)) (r .tally) (r .node .0) ⌝ }
+{
+    append(
+        list,
+        t,
+        AND,
+        WORD,
+        left,
+        right,
+        NodeRef(0),
+        0,
+        Name {
+            area: 0,
+            at: 0,
+            len: 0,
+        },
+    )
+}
+
+pub fn new_not_bit(list: &mut [u64], t: Tally, value: NodeRef) -> Made
+    ensures { λ r. ⌜ Gives (now (list .entry)) t (newNotBit (value .0)) (now (list .exit)) (r .tally) (r .node .0) ⌝ }
+{
+    append(
+        list,
+        t,
+        NOT,
+        BIT,
+        value,
+        NodeRef(0),
+        NodeRef(0),
+        0,
+        Name {
+            area: 0,
+            at: 0,
+            len: 0,
+        },
+    )
+}
+
+pub fn new_not_word(list: &mut [u64], t: Tally, value: NodeRef) -> Made
+    ensures { λ r. ⌜ Gives (now (list .entry)) t (newNotWord (value .0)) (now (list .exit)) (r .tally) (r .node .0) ⌝ }
+{
+    append(
+        list,
+        t,
+        NOT,
+        WORD,
+        value,
+        NodeRef(0),
+        NodeRef(0),
+        0,
+        Name {
+            area: 0,
+            at: 0,
+            len: 0,
+        },
+    )
+}
+
+pub fn new_bad(list: &mut [u64], t: Tally, cond: NodeRef, name: Name) -> Made
+    ensures { λ r. ⌜ Gives (now (list .entry)) t (newBad (cond .0) name) (now (list .exit)) (r .tally) (r .node .0) ⌝ }
+{
+    append(list, t, BAD, 0, cond, NodeRef(0), NodeRef(0), 0, name)
+}

@@ -1,0 +1,5 @@
+pub mod Places
+pub mod Counters
+pub mod Kinds
+pub mod Model
+pub mod Code

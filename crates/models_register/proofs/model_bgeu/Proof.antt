@@ -1,0 +1,11 @@
+use Rattle.models.specs.Kinds.{modelBranch}
+use Rattle.builder.proofs.Gives.{on, stop, kept, free}
+use Rattle.models_register.proofs.model_bgeu.Statement.{statement}
+use Rattle.models_register.proofs.model_bgeu.Tie as tie
+
+returns : tie.Need-returns
+unfolding modelBranch
+returns c = search (on, stop)
+
+pub model-bgeu-spec : {M : Type 1} → statement M
+model-bgeu-spec = tie.close (tie.spec free free (λ c. kept (returns c)) returns)
