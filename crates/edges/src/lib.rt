@@ -1,0 +1,142 @@
+// In-edges, dispatches and bads, as records of numbers in slices that the host lends. Each put is total: where the slice holds no further
+// record it changes nothing.
+use btor2::NodeRef;
+use instruction_class::Class;
+use models::Outcome;
+ghost use mathlib.Core.Path.{_≡_};
+ghost use Prim.Native.Nat.{_+_, _≤_};
+ghost use mathlib.Core.List.{[], _∷_};
+ghost use Rattle.models.specs.Code.{outcomeOf};
+ghost use Rattle.edges.specs.Records.{putRecord};
+ghost use Rattle.edges.specs.Edges.{edge, edgesAfter, edgeCount, taken, other};
+
+// The words of an in-edge: to, from, origin, condition. The words of a dispatch: register, from.
+pub const EDGE: usize = 4;
+
+pub const DISPATCH: usize = 2;
+
+// The origins of an in-edge.
+pub const REGULAR: u64 = 0;
+
+pub const BRANCH: u64 = 1;
+
+pub const SYSCALL: u64 = 2;
+
+// The condition of an edge that has none: a place that no list reaches.
+pub const NO_CONDITION: u64 = 0xffff_ffff_ffff_ffff;
+
+// How many edges a kind of a class adds.
+pub fn edge_count(class: Class) -> usize
+    ensures counted { λ r. ⌜ r ≡ edgeCount class ⌝ }
+    ensures most { λ r. ⌜ r ≤ 2 ⌝ }
+{
+    match class {
+        Class::Plain => 1,
+        Class::Access => 1,
+        Class::Addition => 1,
+        Class::Branch => 2,
+        Class::Jump => 1,
+        Class::Indirect => 0,
+        Class::Call => 1,
+    }
+}
+
+// The edges of an instruction, behind `count` others: the second `match` of unicorn's `translate_to_model`.
+pub fn go_to_instructions(
+    edges: &mut [u64],
+    count: usize,
+    class: Class,
+    pc: u64,
+    imm: u64,
+    outcome: Outcome,
+)
+    ensures { λ _. ⌜ now (edges .exit) ≡ edgesAfter (now (edges .entry)) count class pc imm (outcomeOf outcome) ⌝ }
+{
+    let next = std::num::wrapping_add_u64(pc, 4);
+    let target = std::num::wrapping_add_u64(pc, imm);
+    match class {
+        Class::Plain => put_edge(edges, count, next, pc, REGULAR, NO_CONDITION),
+        Class::Access => put_edge(edges, count, next, pc, REGULAR, NO_CONDITION),
+        Class::Addition => put_edge(edges, count, next, pc, REGULAR, NO_CONDITION),
+        Class::Branch => put_branch(edges, count, target, next, pc, outcome),
+        Class::Jump => put_edge(edges, count, target, pc, REGULAR, NO_CONDITION),
+        Class::Indirect => {}
+        Class::Call => put_edge(edges, count, next, pc, SYSCALL, NO_CONDITION),
+    }
+}
+
+// The taken edge first, then the other.
+fn put_branch(edges: &mut [u64], count: usize, target: u64, next: u64, pc: u64, outcome: Outcome)
+    ensures { λ _. ⌜ now (edges .exit) ≡ putRecord 4 (putRecord 4 (now (edges .entry)) count (edge target pc 1 (taken (outcomeOf outcome)))) (count + 1) (edge next pc 1 (other (outcomeOf outcome))) ⌝ }
+{
+    let condition = taken_condition(outcome);
+    let otherwise = other_condition(outcome);
+    put_edge(edges, count, target, pc, BRANCH, condition);
+    put_second(edges, count, next, pc, otherwise);
+}
+
+fn put_second(edges: &mut [u64], count: usize, to: u64, pc: u64, condition: u64)
+    ensures { λ _. ⌜ now (edges .exit) ≡ putRecord 4 (now (edges .entry)) (count + 1) (edge to pc 1 condition) ⌝ }
+{
+    if count >= edges.len() {
+        return;
+    }
+    put_edge(edges, count + 1, to, pc, BRANCH, condition);
+}
+
+fn taken_condition(outcome: Outcome) -> u64
+    ensures { λ r. ⌜ r ≡ taken (outcomeOf outcome) ⌝ }
+{
+    match outcome {
+        Outcome::Nothing => NO_CONDITION,
+        Outcome::Register(_) => NO_CONDITION,
+        Outcome::Memory(_) => NO_CONDITION,
+        Outcome::Branch(x, _) => x.0 as u64,
+    }
+}
+
+fn other_condition(outcome: Outcome) -> u64
+    ensures { λ r. ⌜ r ≡ other (outcomeOf outcome) ⌝ }
+{
+    match outcome {
+        Outcome::Nothing => NO_CONDITION,
+        Outcome::Register(_) => NO_CONDITION,
+        Outcome::Memory(_) => NO_CONDITION,
+        Outcome::Branch(_, y) => y.0 as u64,
+    }
+}
+
+fn put_edge(edges: &mut [u64], at: usize, to: u64, from: u64, origin: u64, condition: u64)
+    ensures { λ _. ⌜ now (edges .exit) ≡ putRecord 4 (now (edges .entry)) at (edge to from origin condition) ⌝ }
+{
+    if edges.len() / EDGE <= at {
+        return;
+    }
+    let b = at * EDGE;
+    edges[b] = to;
+    edges[b + 1] = from;
+    edges[b + 2] = origin;
+    edges[b + 3] = condition;
+}
+
+// Jalr under a register: a dispatch, behind `count` others.
+pub fn go_to_anywhere(dispatches: &mut [u64], count: usize, register: u64, from: u64)
+    ensures { λ _. ⌜ now (dispatches .exit) ≡ putRecord 2 (now (dispatches .entry)) count (register ∷ from ∷ []) ⌝ }
+{
+    if dispatches.len() / DISPATCH <= count {
+        return;
+    }
+    let b = count * DISPATCH;
+    dispatches[b] = register;
+    dispatches[b + 1] = from;
+}
+
+// The place of a bad line, behind `count` others.
+pub fn put_bad(bads: &mut [u64], count: usize, place: NodeRef)
+    ensures { λ _. ⌜ now (bads .exit) ≡ putRecord 1 (now (bads .entry)) count (place .0 ∷ []) ⌝ }
+{
+    if bads.len() <= count {
+        return;
+    }
+    bads[count] = place.0 as u64;
+}

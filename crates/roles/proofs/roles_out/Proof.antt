@@ -1,0 +1,52 @@
+-- The roles from here on fit where all do, as long as those before did. Assumes nothing.
+use mathlib.Core.Path.{_≡_, refl, sym, ap, _∙_}
+use mathlib.Core.Bool.{not}
+use denote.Ref.{now}
+use Rattle.roles.proofs.Fit.{fit-on, fit-not, fit-end}
+use Prim.Native.Nat.{_≤_, _-_}
+use native.Mathlib.Omega.{arith}
+use lib.ListN.{length, drop}
+use borrow.Author.Needs.{needs}
+use Rattle.roles.specs.Roles.{rolesFit}
+use Rattle.roles.proofs.roles_out.Statement.{statement}
+use Rattle.roles.proofs.roles_out.Tie as tie
+
+abbrev Inv-loop : tie.InvT-loop
+Inv-loop list lines roles role₀ role = (role ≤ 79) × (length roles ≡ 79) × (rolesFit list lines role (drop role roles) ≡ rolesFit list lines 0 roles)
+
+abbrev μ-loop : tie.MeasureT-loop
+μ-loop list lines roles role₀ role = 79 - role
+
+loop-holds : tie.Need-loop-holds Inv-loop μ-loop
+loop-holds c = (omega arith, search needs, refl)
+
+returns : tie.Need-returns Inv-loop μ-loop
+returns c =
+    let l = c .before .before .before .before .before in
+    let a = l .before .before .args in
+    sym (ap not (sym (l .loop .inv .2) ∙ fit-not (now (a .list)) (a .lines) (a .t3) (l .loop .role) (omega arith)
+    (λ e. c .if1 .taken (c .before .before .value-sort .ensures ∙ e ∙ sym (c .before .role-sort .ensures)))))
+
+loop-less : tie.Need-loop-less Inv-loop μ-loop
+loop-less c = omega arith
+
+loop-again : tie.Need-loop-again Inv-loop μ-loop
+loop-again c =
+    let l = c .before .before .before .before .before in
+    let a = l .before .before .args in (
+      omega arith,
+      l .loop .inv .1,
+      fit-on (now (a .list)) (a .lines) (a .t3) (l .loop .role) (omega arith)
+          (sym (c .before .before .value-sort .ensures) ∙ c .if1 .left ∙ c .before .role-sort .ensures) ∙ l .loop .inv .2,
+    )
+
+returns-2 : tie.Need-returns-2 Inv-loop μ-loop
+returns-2 c =
+    let l = c .before in
+    let a = l .before .before .args in
+    sym (ap not (sym (l .loop .inv .2) ∙ fit-end (now (a .list)) (a .lines) (a .t3) (l .loop .role) (omega arith)))
+
+pub roles-out-spec : {M : Type 1} → statement M
+roles-out-spec =
+    tie.close
+    (tie.spec Inv-loop μ-loop loop-holds (λ c. search needs) (λ c. search needs) (λ c κs. tt) (λ c κs. tt) returns (λ c. search needs) loop-less loop-again returns-2)
