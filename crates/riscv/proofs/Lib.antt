@@ -1,4 +1,5 @@
 pub mod Below
+pub mod First
 pub mod Numbered
 pub mod InOneCell
 mod Examples

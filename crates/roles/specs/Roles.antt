@@ -15,8 +15,7 @@ use Rattle.btor2_list.specs.declared.Looked.the-variants.{Outside, NoValue, Val
 use Rattle.btor2_list.specs.Look.{lookAt}
 use Rattle.models.specs.declared.Operands.{Operands}
 use Rattle.models.specs.declared.Flows.{Flows}
-use Rattle.models.specs.declared.Outcome.{Outcome}
-use Rattle.models.specs.declared.Outcome.the-variants.{Nothing, Register, Memory as ToMemory, Branch}
+use Rattle.models.specs.Places as P
 
 -- the number of the sort of a value, 0 where there is none
 abbrev pub valueNumber : Looked → ℕ
@@ -73,17 +72,21 @@ flowsIn roles = record {
   ecall = role roles 78;
 }
 
+abbrev pub ref : ℕ → NodeRef
+ref n = record { 0 = n }
+
 -- the roles once these flows are set
-unfoldable pub withFlows : List NodeRef → Flows → List NodeRef
+unfoldable pub withFlows : List NodeRef → P.Flows ℕ → List NodeRef
 withFlows roles f =
-    set (set (set (set (set (set (set (set roles 71 (f .counter)) 72 (f .maximum)) 73 (f .division)) 74 (f .remainder)) 75 (f .access)) 76 (f .addition)) 77 (f .multiplication)) 78 (f .ecall)
+    set (set (set (set (set (set (set (set roles 71 (ref (f .counter))) 72 (ref (f .maximum))) 73 (ref (f .division))) 74 (ref (f .remainder)))
+    75 (ref (f .access))) 76 (ref (f .addition))) 77 (ref (f .multiplication))) 78 (ref (f .ecall))
 
 -- and the register's or the memory's flow, where a model gave one
 abbrev pub withRegister : List NodeRef → ℕ → NodeRef → List NodeRef
 withRegister roles rd x = cond (eqb rd 0) roles (cond (ltb 31 rd) roles (set roles (38 + rd) x))
 
-abbrev pub withOutcome : List NodeRef → ℕ → Outcome → List NodeRef
-withOutcome roles rd Nothing = roles
-withOutcome roles rd (Register x) = withRegister roles rd x
-withOutcome roles rd (ToMemory x) = set roles 70 x
-withOutcome roles rd (Branch x y) = roles
+abbrev pub withOutcome : List NodeRef → ℕ → P.Outcome ℕ → List NodeRef
+withOutcome roles rd P.nothing = roles
+withOutcome roles rd (P.register x) = withRegister roles rd (ref x)
+withOutcome roles rd (P.memory x) = set roles 70 (ref x)
+withOutcome roles rd (P.branch x y) = roles

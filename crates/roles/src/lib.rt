@@ -12,6 +12,7 @@ ghost use Prim.Native.Nat.{_+_};
 ghost use lib.ListN.{set};
 ghost use Rattle.btor2.specs.Sort.{sortNumber};
 ghost use Rattle.btor2_list.specs.Look.{lookAt};
+ghost use Rattle.models.specs.Code.{flowsOf, outcomeOf};
 ghost use Rattle.roles.specs.Roles.{valueNumber, roleSort, rolesFit, registerNode, registerFlow, operandsFor, flowsIn, withFlows, withRegister, withOutcome};
 
 // How many there are, and where each stands: zero and one as Bit and as Word; the memory, counter and counter maximum nodes; the register
@@ -167,7 +168,7 @@ pub fn flows_in(roles: [NodeRef; 79]) -> Flows
 
 // The roles with these flows, and the register's or the memory's flow where a model gave one.
 pub fn with_flows(roles: [NodeRef; 79], f: Flows) -> [NodeRef; 79]
-    ensures { λ x. ⌜ x ≡ withFlows roles f ⌝ }
+    ensures { λ x. ⌜ x ≡ withFlows roles (flowsOf f) ⌝ }
 {
     let mut next = roles;
     let counter = f.counter;
@@ -190,7 +191,7 @@ pub fn with_flows(roles: [NodeRef; 79], f: Flows) -> [NodeRef; 79]
 }
 
 pub fn with_outcome(roles: [NodeRef; 79], rd: u64, outcome: Outcome) -> [NodeRef; 79]
-    ensures { λ x. ⌜ x ≡ withOutcome roles rd outcome ⌝ }
+    ensures { λ x. ⌜ x ≡ withOutcome roles rd (outcomeOf outcome) ⌝ }
 {
     match outcome {
         Outcome::Nothing => roles,

@@ -10,13 +10,11 @@ use Rattle.riscv.specs.declared.Format.{Format}
 use Rattle.riscv.specs.Kind.{kindAt}
 use Rattle.riscv.specs.Format.{format, registersOut, immediateOut}
 use Rattle.riscv.specs.Refusal.{amountOut, zeroSrliw, zeroRd, indirectOffset, first, refusal}
+use Rattle.riscv.proofs.First.{Tests, hit, miss}
 use Rattle.riscv.proofs.check.Statement.{statement}
 use Rattle.riscv.proofs.check.Tie as tie
 
 -- the tests from each one on
-abbrev Tests : Type 0
-Tests = List (Bool × ℕ)
-
 abbrev from6 : Instruction → Tests
 from6 i = (indirectOffset (kindAt (i .kind)) (i .rs1) (i .imm), 6) ∷ []
 
@@ -34,13 +32,6 @@ fromImmediate i = (immediateOut (format (kindAt (i .kind))) (i .imm), 2) ∷ fro
 
 abbrev from2 : Instruction → Tests
 from2 i = (registersOut (format (kindAt (i .kind))) (i .rd) (i .rs1) (i .rs2), 2) ∷ fromImmediate i
-
--- a test that holds gives its number, and one that does not leaves the next
-hit : {t : Bool} (n : ℕ) (ts : Tests) → t ≡ true → n ≡ first ((t, n) ∷ ts)
-hit n ts e = rw e
-
-miss : {t : Bool} (n : ℕ) {x : ℕ} (ts : Tests) → t ≡ false → x ≡ first ts → x ≡ first ((t, n) ∷ ts)
-miss n ts e h = rw e h
 
 -- the answer is that of the tests which are left
 past1 : (c : tie.Else1) {x : ℕ} → x ≡ first (from2 (c .before .args .i)) → x ≡ refusal (c .before .args .i)

@@ -1,0 +1,3 @@
+pub mod Numeral
+pub mod Put
+pub mod BadName
