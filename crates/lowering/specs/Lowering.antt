@@ -46,6 +46,9 @@ pub record Answer : Type 0 where
   pub lowered : Lowered
   pub lent : Lent
 
+abbrev pub answer : Lowered → Lent → Answer
+answer r l = record { lowered = r; lent = l }
+
 -- Jalr's bad line has a name in our area, behind what is in use there; no other line has one
 abbrev pub nameFor : Class → Bool → ℕ → ℕ → Name
 nameFor Plain s at pc = noName
@@ -122,7 +125,4 @@ refused n l st = record { lowered = record { refusal = n; state = st }; lent = l
 unfoldable pub lowering : Lent → State → Instruction → ℕ → NodeRef → Answer
 lowering l st i pc flag =
     let n = refusalOf (l .list) (roomIn l) st i pc (flag .0) in
-    elim (eqb n 0) [
-      | true ↦ settled l st i pc (exec append (at (l .list) (st .tally)) (programOf st i pc flag))
-      | false ↦ refused n l st
-    ]
+    cond (eqb n 0) (settled l st i pc (exec append (at (l .list) (st .tally)) (programOf st i pc flag))) (refused n l st)

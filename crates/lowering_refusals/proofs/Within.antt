@@ -10,7 +10,7 @@ use Rattle.lowering_refusals.specs.declared.Room.{Room}
 use Rattle.lowering_refusals.specs.Bounds.{Within}
 use Rattle.lowering_refusals.specs.Refusal.{countsOut}
 
-neither : (a b : Bool) → (a || b) ≡ false → (a ≡ false) × (b ≡ false)
+pub neither : (a b : Bool) → (a || b) ≡ false → (a ≡ false) × (b ≡ false)
 neither true b e = let z : true ≡ false = e in (z, cc)
 neither false b e = (refl, e)
 

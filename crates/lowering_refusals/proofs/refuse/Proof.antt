@@ -1,42 +1,23 @@
 -- The tests come in the definition's order, and each answers as its own definition does. Assumes nothing.
 use Prim.Native.Nat.{ℕ}
 use mathlib.Core.Path.{_≡_, refl, sym, ap, _∙_}
-use mathlib.Core.Bool.{Bool, true, false, not}
-use mathlib.Core.List.{List, [], _∷_}
+use mathlib.Core.Bool.{not}
+use mathlib.Core.List.{[]}
 use borrow.Author.Needs.{needs}
 use borrow.Author.Tests.{ne-eqb, eq-eqb}
 use denote.Ref.{now}
 use lib.Dec.{eqb}
 use Rattle.instruction_class.specs.declared.Class.{Class}
 use Rattle.instruction_class.specs.Class.{class}
-use Rattle.riscv.specs.declared.Instruction.{Instruction}
 use Rattle.riscv.specs.Kind.{kindAt}
 use Rattle.riscv.specs.Refusal.{refusal, first}
-use Rattle.riscv.proofs.First.{Tests, hit, miss}
-use Rattle.roles.specs.Roles.{rolesFit}
+use Rattle.riscv.proofs.First.{hit, miss}
 use Rattle.lowering_refusals.specs.declared.Room.{Room}
-use Rattle.lowering_refusals.specs.declared.State.{State}
-use Rattle.lowering_refusals.specs.Refusal.{countsOut, needsOf, roomOut, flagOut, refusalOf}
+use Rattle.lowering_refusals.specs.Refusal.{needsOf, roomOut, flagOut, refusalOf}
+use Rattle.lowering_refusals.proofs.Tests.{from8, from7, fromRecord, from13}
 use Rattle.lowering_refusals.proofs.Within.{within}
 use Rattle.lowering_refusals.proofs.refuse.Statement.{statement}
 use Rattle.lowering_refusals.proofs.refuse.Tie as tie
-
--- the tests from each one on
-module _ (ws : List ℕ) (room : Room) (st : State) (i : Instruction) (pc flag : ℕ) where
-  abbrev kindClass : Class
-  kindClass = class (kindAt (i .kind))
-
-  abbrev from8 : Tests
-  from8 = (roomOut room (st .tally) (st .counts) (needsOf (kindAt (i .kind)) kindClass (eqb (i .imm) 0) (eqb (i .rd) 0) (eqb (i .rs1) 0) pc), 8) ∷ []
-
-  abbrev from7 : Tests
-  from7 = (flagOut ws (st .tally .lines) kindClass (eqb (i .rd) 0) (eqb (i .rs1) 0) flag, 7) ∷ from8
-
-  abbrev fromRecord : Tests
-  fromRecord = (not (eqb (refusal i) 0), refusal i) ∷ from7
-
-  abbrev from13 : Tests
-  from13 = (not (rolesFit ws (st .tally .lines) 0 (st .roles)), 13) ∷ fromRecord
 
 -- the answer is that of the tests which are left
 past9 : (c : tie.Else1) {x : ℕ} → let a = c .before .before .before .before .before .args in
