@@ -39,7 +39,7 @@ module _ (ws : List ℕ) (room : Room) (st : State) (i : Instruction) (pc flag :
   abbrev needs : Room
   needs = needsOf (kindAt (i .kind)) (class (kindAt (i .kind))) (eqb (i .imm) 0) (eqb (i .rd) 0) (eqb (i .rs1) 0) pc
 
-  counts-in : countsOut room (st .tally) (st .counts) ≡ false
+  pub counts-in : countsOut room (st .tally) (st .counts) ≡ false
   unfolding refusalOf
   counts-in = passes (countsOut room (st .tally) (st .counts)) 9 (from13 ws room st i pc flag) (λ z. omega arith) e .0
 

@@ -1,0 +1,88 @@
+-- A program that has room puts its lines behind those that stand, one after the other, and changes nothing else. One induction, for every
+-- program. Assumes nothing.
+use Prim.Native.Nat.{ℕ, suc, _+_, _*_, _/_, _%_, _^_, _≤_, _<_}
+use mathlib.Core.Path.{_≡_, refl, sym, _∙_, ap, subst}
+use mathlib.Core.Bool.{true}
+use mathlib.Core.List.{List, [], _∷_, _++_, append-assoc, append-nil}
+use native.Mathlib.Omega.{arith}
+use native.Mathlib.Nat.{mod-eq-of-lt}
+use borrow.Author.Tests.{lt-ltb}
+use lib.ListN.{length, getD}
+use Rattle.btor2.specs.Op.{Op}
+use Rattle.btor2_list.specs.Record.{stride, holds, putAt}
+use Rattle.btor2_list.specs.Node.{Node, node, nodeOf, lineOf}
+use Rattle.btor2_list.specs.View.{view}
+use Rattle.btor2_list.proofs.Stored.{put-length, put-elsewhere-below, put-elsewhere-above}
+use Rattle.btor2_list.proofs.View.{node-back, view-put}
+use Rattle.program.specs.Prog.{Prog, done, line, Run, ran, exec}
+use Rattle.builder.specs.declared.Tally.{Tally}
+use Rattle.builder.specs.Append.{Store, at, appendLine, append}
+use Rattle.lowering_laws.specs.Lines.{linesOf, answerOf, behind, numbered}
+
+-- the lent words hold m more lines, and their identifiers are numbers of 64 bits
+pub record Room (ws : List ℕ) (t : Tally) (m : ℕ) : Type 0 where
+  pub lines : t .lines + m ≤ length ws / stride
+  pub nids : t .nid + m < 2 ^ 64
+
+-- what a run of the program p from ws and t has done, m being how many lines p has from the k-th on behind n others
+pub record Laid {X : Type 0} (n k m : ℕ) (ws : List ℕ) (t : Tally) (p : Prog ℕ X) (r : Run Store X) : Type 0 where
+  pub value : r .value ≡ answerOf (behind n) k p
+  pub nodes : view (r .state .words) (r .state .tally .lines) ≡ view ws (t .lines) ++ numbered (t .nid) (linesOf (behind n) k p)
+  pub lines : r .state .tally .lines ≡ t .lines + m
+  pub nids : r .state .tally .nid ≡ t .nid + m
+  pub size : length (r .state .words) ≡ length ws
+  pub below : (j : ℕ) → j < t .lines * stride → getD (r .state .words) j 0 ≡ getD ws j 0
+  pub above : (j : ℕ) → (t .lines + m) * stride ≤ j → getD (r .state .words) j 0 ≡ getD ws j 0
+
+abbrev next : Tally → Tally
+next t = record { lines = t .lines + 1; nid = t .nid + 1 }
+
+abbrev put : List ℕ → Tally → Op ℕ → List ℕ
+put ws t o = putAt ws (t .lines) (lineOf (t .nid) o)
+
+there : (ws : List ℕ) (t : Tally) (m : ℕ) → Room ws t (suc m) → holds ws (t .lines) ≡ true
+there ws t m r = lt-ltb (t .lines) (length ws / stride) (omega (arith, r .lines))
+
+append-room : (ws : List ℕ) (t : Tally) (o : Op ℕ) (m : ℕ) → Room ws t (suc m) → append (at ws t) o ≡ ran (at (put ws t o) (next t)) (t .lines)
+unfolding appendLine
+append-room ws t o m r = rw (there ws t m r, mod-eq-of-lt {n = t .nid + 1} {m = 2 ^ 64} (omega (arith, r .nids)))
+
+room-next : (ws : List ℕ) (t : Tally) (o : Op ℕ) (m : ℕ) → Room ws t (suc m) → Room (put ws t o) (next t) m
+room-next ws t o m r = record {
+  lines = rw (put-length ws (t .lines) (lineOf (t .nid) o)) (omega (arith, r .lines));
+  nids = omega (arith, r .nids);
+}
+
+pub laid : {X : Type 0} (p : Prog ℕ X) (n k : ℕ) (ws : List ℕ) (t : Tally) → t .lines ≡ n + k → Room ws t (length (linesOf (behind n) k p))
+    → Laid n k (length (linesOf (behind n) k p)) ws t p (exec append (at ws t) p)
+unfolding linesOf answerOf numbered
+laid (done x) n k ws t e r = record {
+  value = refl;
+  nodes = sym (append-nil (view ws (t .lines)));
+  lines = omega arith;
+  nids = omega arith;
+  size = refl;
+  below = λ j h. refl;
+  above = λ j h. refl;
+}
+laid {X} (line o f) n k ws t e r =
+    subst (λ (g : Run Store ℕ). Laid n k (suc m) ws t (line o f) (exec append (g .state) (f (g .value))))
+    (sym (append-room ws t o m r ∙ ap (λ j. ran (at (put ws t o) (next t)) j) e))
+    (go (laid (f (n + k)) n (k + 1) (put ws t o) (next t) (omega arith) (room-next ws t o m r)))
+  where
+    m : ℕ
+    m = length (linesOf (behind n) (k + 1) (f (n + k)))
+
+    placed : view (put ws t o) (t .lines + 1) ≡ view ws (t .lines) ++ (node (t .nid) o ∷ [])
+    placed = view-put ws (t .lines) (lineOf (t .nid) o) (there ws t m r) ∙ ap (λ (x : Node). view ws (t .lines) ++ (x ∷ [])) (node-back (t .nid) o)
+
+    go : {g : Run Store X} → Laid n (k + 1) m (put ws t o) (next t) (f (n + k)) g → Laid n k (suc m) ws t (line o f) g
+    go h = record {
+      value = h .value;
+      nodes = h .nodes ∙ ap (λ l. l ++ numbered (t .nid + 1) (linesOf (behind n) (k + 1) (f (n + k)))) placed ∙ append-assoc (view ws (t .lines)) _ _;
+      lines = omega (arith, h .lines);
+      nids = omega (arith, h .nids);
+      size = h .size ∙ put-length ws (t .lines) (lineOf (t .nid) o);
+      below = λ j l. h .below j (omega arith) ∙ put-elsewhere-below ws (t .lines) (lineOf (t .nid) o) j l;
+      above = λ j l. h .above j (omega arith) ∙ put-elsewhere-above ws (t .lines) (lineOf (t .nid) o) j (omega arith);
+    }

@@ -1,0 +1,77 @@
+-- One call: refused, all stays; accepted, the instruction's lines stand behind the others and all else stays. Assumes nothing.
+use Prim.Native.Nat.{ℕ, _+_, _*_, _/_, _^_, _≤_, _<_}
+use mathlib.Core.Path.{_≡_, refl, sym, ap, subst, _∙_}
+use mathlib.Core.List.{List}
+use native.Mathlib.Omega.{arith}
+use native.Mathlib.Nat.{add-zero}
+use borrow.Author.Tests.{ltb-false, ne-eqb}
+use lib.Dec.{eqb, ltb}
+use lib.ListN.{length}
+use Rattle.btor2.specs.declared.NodeRef.{NodeRef}
+use Rattle.btor2_list.specs.Record.{stride}
+use Rattle.program.specs.Prog.{exec}
+use Rattle.builder.specs.Append.{at, append}
+use Rattle.instruction_class.specs.Class.{class, lineCount}
+use Rattle.models.specs.Code.{operandsOf, flowsOf}
+use Rattle.riscv.specs.declared.Instruction.{Instruction}
+use Rattle.riscv.specs.Kind.{kindAt}
+use Rattle.lowering_refusals.specs.declared.State.{State}
+use Rattle.lowering_refusals.specs.Refusal.{roomOf, countsOut, refusalOf}
+use Rattle.lowering_refusals.proofs.Within.{neither}
+use Rattle.lowering.specs.Lowering.{Lent, Answer, aside, programOf, settled, roomIn, refused, lowering}
+use Rattle.lowering.proofs.Accepted as A
+use Rattle.lowering_laws.specs.Lines.{linesOf, behind}
+use Rattle.lowering_laws.specs.Accepted.{growth, Accepted}
+use Rattle.lowering_laws.proofs.EachKind.{reads}
+use Rattle.lowering_laws.proofs.Growth.{grows, at-most}
+use Rattle.lowering_laws.proofs.Laid.{Room, Laid, laid}
+use Rattle.lowering_laws.proofs.Elsewhere.{edges-else, needs-lines, needs-edges, names-else, dispatches-else, bads-else}
+
+module _ (l : Lent) (st : State) (i : Instruction) (pc : ℕ) (flag : NodeRef) where
+  abbrev number : ℕ
+  number = refusalOf (l .list) (roomIn l) st i pc (flag .0)
+
+  pub when-refused : (number ≡ 0 → ⊥) → lowering l st i pc flag ≡ refused number l st
+  unfolding lowering
+  when-refused h = rw (ne-eqb number 0 h)
+
+  grown : (at : ℕ → ℕ) → length (linesOf at 0 (programOf st i pc flag)) ≡ growth i
+  unfolding programOf
+  grown at = sym (ap (λ r. length (r .lines)) (reads at _ _ _ _ _ _ (kindAt (i .kind)) _ _ _)) ∙ grows at _ _ _ _ _ _ (kindAt (i .kind)) _ _ _
+
+  module _ (e : number ≡ 0) where
+    nid-in : st .tally .nid ≤ 2 ^ 31 + 2097152
+    unfolding countsOut
+    nid-in =
+        let p = neither (ltb 1048576 (st .tally .lines)) _ (A.counts-in (l .list) (roomIn l) st i pc (flag .0) e) in
+        ltb-false _ _ (neither (ltb (2 ^ 31 + 2097152) (st .tally .nid)) _ (p .1) .0)
+
+    room : Room (l .list) (st .tally) (growth i)
+    unfolding roomOf
+    room = record {
+      lines = rw (needs-lines (kindAt (i .kind)) (eqb (i .imm) 0) (eqb (i .rd) 0) pc (class (kindAt (i .kind))) (eqb (i .rs1) 0)) at (A.roomy (l .list) (roomIn l) st i pc (flag .0) e .lines);
+      nids = omega (arith, nid-in, at-most (kindAt (i .kind)) (eqb (i .imm) 0) (eqb (i .rd) 0) (eqb (i .rs1) 0));
+    }
+
+    abbrev behind-them : ℕ → ℕ
+    behind-them = behind (st .tally .lines)
+
+    run : Laid (st .tally .lines) 0 (growth i) (l .list) (st .tally) (programOf st i pc flag) (exec append (at (l .list) (st .tally)) (programOf st i pc flag))
+    run =
+        subst (λ m. Laid (st .tally .lines) 0 m (l .list) (st .tally) (programOf st i pc flag) (exec append (at (l .list) (st .tally)) (programOf st i pc flag))) (grown behind-them)
+        (laid (programOf st i pc flag) (st .tally .lines) 0 (l .list) (st .tally) (sym (add-zero _)) (rw (grown behind-them) room))
+
+    pub when-accepted : Accepted l st i pc flag (lowering l st i pc flag)
+    unfolding lowering settled
+    when-accepted = rw e (record {
+      refusal = refl;
+      nodes = run .nodes;
+      lines = run .lines;
+      nids = run .nids;
+      most = at-most (kindAt (i .kind)) (eqb (i .imm) 0) (eqb (i .rd) 0) (eqb (i .rs1) 0);
+      list = record { size = run .size; below = run .below; above = run .above };
+      names = names-else _ _ (eqb (i .rd) 0) pc (aside (l .names) (l .dispatches) (l .bads)) (st .counts) _ (i .rs1) (class (kindAt (i .kind))) (eqb (i .rs1) 0);
+      edges = rw (needs-edges (kindAt (i .kind)) (eqb (i .imm) 0) (eqb (i .rd) 0) pc (class (kindAt (i .kind))) (eqb (i .rs1) 0)) (edges-else (class (kindAt (i .kind))) (l .edges) (st .counts .edges) pc (i .imm) _);
+      dispatches = dispatches-else _ _ (eqb (i .rd) 0) pc (aside (l .names) (l .dispatches) (l .bads)) (st .counts) _ (i .rs1) (class (kindAt (i .kind))) (eqb (i .rs1) 0);
+      bads = bads-else _ _ (eqb (i .rd) 0) pc (aside (l .names) (l .dispatches) (l .bads)) (st .counts) _ (i .rs1) (class (kindAt (i .kind))) (eqb (i .rs1) 0);
+    })

@@ -1,0 +1,24 @@
+-- A program read without a state: its lines, and what it gives in the end.
+use Prim.Native.Nat.{ℕ, _+_}
+use mathlib.Core.List.{List, [], _∷_}
+use Rattle.btor2.specs.Op.{Op}
+use Rattle.btor2_list.specs.Node.{Node, node}
+use Rattle.program.specs.Prog.{Prog, done, line}
+
+-- the k-th line has the place `at k`; from the k-th line on
+unfoldable pub linesOf : {A X : Type 0} → (ℕ → A) → ℕ → Prog A X → List (Op A)
+linesOf at k (done x) = []
+linesOf at k (line o f) = o ∷ linesOf at (k + 1) (f (at k))
+
+unfoldable pub answerOf : {A X : Type 0} → (ℕ → A) → ℕ → Prog A X → X
+answerOf at k (done x) = x
+answerOf at k (line o f) = answerOf at (k + 1) (f (at k))
+
+-- the places of lines behind n others
+abbrev pub behind : ℕ → ℕ → ℕ
+behind n k = n + k
+
+-- lines under identifiers that go up by one
+unfoldable pub numbered : ℕ → List (Op ℕ) → List Node
+numbered nid [] = []
+numbered nid (o ∷ os) = node nid o ∷ numbered (nid + 1) os
