@@ -4,58 +4,11 @@
     tools/riscv_cases.py stdin    crates/riscv_cases/stdin: a record to a line
     tools/riscv_cases.py stdout   crates/riscv_cases/stdout: each record, and its refusal
 
-The refusals are read off document 01 by `refusal` below, which shares nothing with the project's definitions and code.
+The refusals are read off document 01 by refusal.py, which shares nothing with the project's definitions and code.
 """
 import sys
 
-KINDS = (
-    "Lui Auipc Lb Lh Lw Ld Lbu Lhu Sb Sh Sw Sd Addi Sltiu Xori Ori Andi Slli Srli Srai Addiw Slliw Srliw Sraiw "
-    "Add Sub Sll Sltu Srl Sra Or And Mul Div Divu Remu Addw Divw Subw Sllw Mulw Beq Bne Blt Bge Bltu Bgeu Jal Jalr Ecall"
-).split()
-STORES = {"Sb", "Sh", "Sw", "Sd"}
-BRANCHES = {"Beq", "Bne", "Blt", "Bge", "Bltu", "Bgeu"}
-UPPER = {"Lui", "Auipc"}
-REGISTERS = set(KINDS[KINDS.index("Add") : KINDS.index("Mulw") + 1])
-NO_RD = STORES | BRANCHES | {"Ecall"}
-
-
-def refusal(number, rd, rs1, rs2, imm):
-    if number >= len(KINDS):
-        return 1
-    kind = KINDS[number]
-    used = [] if kind in NO_RD else [rd]
-    if kind not in UPPER | {"Jal", "Ecall"}:
-        used.append(rs1)
-    if kind in REGISTERS | STORES | BRANCHES:
-        used.append(rs2)
-    if any(r > 31 for r in used):
-        return 2
-    if kind in UPPER:
-        fits = 0 <= imm <= 1_048_575
-    elif kind in BRANCHES:
-        fits = imm % 2 == 0 and -4096 <= imm <= 4094
-    elif kind == "Jal":
-        fits = imm % 2 == 0 and -1_048_576 <= imm <= 1_048_574
-    elif kind in REGISTERS or kind == "Ecall":
-        fits = True
-    else:
-        fits = -2048 <= imm <= 2047
-    if not fits:
-        return 2
-    if kind in ("Slli", "Srli") and not 0 <= imm <= 63:
-        return 3
-    if kind in ("Slliw", "Srliw") and not 0 <= imm <= 31:
-        return 3
-    if kind == "Sraiw" and imm % 64 > 31:
-        return 3
-    if kind == "Srliw" and imm == 0:
-        return 4
-    if kind not in NO_RD and rd == 0 and kind not in ("Addi", "Jal", "Jalr"):
-        return 5
-    if kind == "Jalr" and rs1 != 0 and imm != 0:
-        return 6
-    return 0
-
+from refusal import KINDS, refusal
 
 def cases():
     n = {k: i for i, k in enumerate(KINDS)}
@@ -94,6 +47,10 @@ def cases():
     yield n["Jal"], 0, 99, 99, 4
 
 
+def kind(number):
+    return KINDS[number] if number < len(KINDS) else None
+
+
 def word(imm):
     return imm % 2**64
 
@@ -101,4 +58,4 @@ def word(imm):
 if __name__ == "__main__":
     for c in cases():
         fields = (*c[:4], word(c[4]))
-        print(*fields, *([] if sys.argv[1:] == ["stdin"] else [refusal(*c)]))
+        print(*fields, *([] if sys.argv[1:] == ["stdin"] else [refusal(kind(c[0]), *c[1:])]))

@@ -1,0 +1,498 @@
+// Lowers the instructions of standard input on the listing's start, and writes what each appends. A command a line:
+//   1 ADDRESS KIND RD RS1 RS2 IMM FLAG              lowers an instruction; FLAG is a place, IMM a word of 64 bits
+//   2                                               takes a fresh start
+//   3 LINES NID NAMES EDGES DISPATCHES BADS         sets the tally and the counts, for the refusals that speak of them
+//   4 ROLE PLACE                                    sets a role, for the refusal that speaks of it
+// Command 1 writes its lines as the ten numbers of their records, a bad line's name behind it, then edges, dispatches, bads, the tally and
+// the counts, and the places of the 40 flows; or its refusal. Places are those of the list: identifier 20 stands at 0.
+// tools/lowering_cases.py made the commands and what is to be written.
+use btor2::Name;
+use btor2::Nid;
+use btor2::NodeRef;
+use btor2_list::BAD;
+use btor2_list::CONST;
+use btor2_list::Found;
+use btor2_list::Line;
+use btor2_list::STATE;
+use builder::Tally;
+use decimal_text::read_decimal;
+use libc::STDIN_FILENO;
+use libc::STDOUT_FILENO;
+use lowering_refusals::Counts;
+use lowering_refusals::State;
+use riscv::Instruction;
+
+// The sorts as printed.
+const BIT: u64 = 1;
+
+const WORD: u64 = 2;
+
+const MEMORY: u64 = 3;
+
+// The state after a command, and where the next one starts.
+struct Step {
+    state: State,
+    next: usize,
+}
+
+fn main() {
+    let mut buffer = [0u8; 65536];
+    let n = io::read_full(STDIN_FILENO, &mut buffer);
+    let mut list = [0u64; 8000];
+    let mut names = [0u8; 1024];
+    let mut edges = [0u64; 12];
+    let mut dispatches = [0u64; 4];
+    let mut bads = [0u64; 32];
+    run(
+        &buffer[..n],
+        &mut list,
+        &mut names,
+        &mut edges,
+        &mut dispatches,
+        &mut bads,
+    );
+}
+
+fn run(
+    text: &[u8],
+    list: &mut [u64],
+    names: &mut [u8],
+    edges: &mut [u64],
+    dispatches: &mut [u64],
+    bads: &mut [u64],
+) {
+    let mut state = start(list);
+    let mut at = 0;
+    while at < text.len() {
+        let step = run_line(text, at, list, names, edges, dispatches, bads, state);
+        if step.next <= at {
+            return;
+        }
+        at = step.next;
+        state = step.state;
+    }
+}
+
+// One command.
+fn run_line(
+    text: &[u8],
+    at: usize,
+    list: &mut [u64],
+    names: &mut [u8],
+    edges: &mut [u64],
+    dispatches: &mut [u64],
+    bads: &mut [u64],
+    state: State,
+) -> Step {
+    let command = read_decimal(text, at);
+    let from = command.next;
+    let which = command.value;
+    if which == 1 {
+        return run_lower(text, from, list, names, edges, dispatches, bads, state);
+    }
+    if which == 2 {
+        let fresh = start(list);
+        return Step {
+            state: fresh,
+            next: from,
+        };
+    }
+    if which == 3 {
+        return run_counts(text, from, state);
+    }
+    run_role(text, from, state)
+}
+
+// The listing's start: the bits and words 0 and 1, then states. No lowering looks at their names, which are left out.
+fn start(list: &mut [u64]) -> State {
+    put_constants(list);
+    put_registers(list);
+    put_memory_and_flag(list);
+    let roles = start_roles();
+    State {
+        tally: Tally { lines: 39, nid: 59 },
+        counts: Counts {
+            names: 0,
+            edges: 0,
+            dispatches: 0,
+            bads: 0,
+        },
+        roles,
+    }
+}
+
+fn put_constants(list: &mut [u64]) {
+    put_start(list, 0, CONST, BIT, 0);
+    put_start(list, 1, CONST, BIT, 1);
+    put_start(list, 2, CONST, WORD, 0);
+    put_start(list, 3, CONST, WORD, 1);
+}
+
+// The memory, the counter, the counter maximum and the flag.
+fn put_memory_and_flag(list: &mut [u64]) {
+    put_start(list, 35, STATE, MEMORY, 0);
+    put_start(list, 36, STATE, MEMORY, 0);
+    put_start(list, 37, STATE, WORD, 0);
+    put_start(list, 38, STATE, BIT, 0);
+}
+
+// x1 to x31.
+fn put_registers(list: &mut [u64]) {
+    let mut place = 4;
+    while place < 35 {
+        put_start(list, place, STATE, WORD, 0);
+        place += 1;
+    }
+}
+
+fn put_start(list: &mut [u64], place: usize, kind: u64, sort: u64, imm: u64) {
+    let line = Line {
+        nid: Nid(std::num::wrapping_add_u64(place as u64, 20)),
+        kind,
+        sort,
+        op1: NodeRef(0),
+        op2: NodeRef(0),
+        op3: NodeRef(0),
+        imm,
+        name: Name {
+            area: 0,
+            at: 0,
+            len: 0,
+        },
+    };
+    btor2_list::put(list, NodeRef(place), line);
+}
+
+// In the order of the roles: constants, memory nodes, x0 to x31, then the flows.
+fn start_roles() -> [NodeRef; 79] {
+    [
+        NodeRef(0),
+        NodeRef(1),
+        NodeRef(2),
+        NodeRef(3),
+        NodeRef(35),
+        NodeRef(36),
+        NodeRef(37),
+        NodeRef(2),
+        NodeRef(4),
+        NodeRef(5),
+        NodeRef(6),
+        NodeRef(7),
+        NodeRef(8),
+        NodeRef(9),
+        NodeRef(10),
+        NodeRef(11),
+        NodeRef(12),
+        NodeRef(13),
+        NodeRef(14),
+        NodeRef(15),
+        NodeRef(16),
+        NodeRef(17),
+        NodeRef(18),
+        NodeRef(19),
+        NodeRef(20),
+        NodeRef(21),
+        NodeRef(22),
+        NodeRef(23),
+        NodeRef(24),
+        NodeRef(25),
+        NodeRef(26),
+        NodeRef(27),
+        NodeRef(28),
+        NodeRef(29),
+        NodeRef(30),
+        NodeRef(31),
+        NodeRef(32),
+        NodeRef(33),
+        NodeRef(34),
+        NodeRef(4),
+        NodeRef(5),
+        NodeRef(6),
+        NodeRef(7),
+        NodeRef(8),
+        NodeRef(9),
+        NodeRef(10),
+        NodeRef(11),
+        NodeRef(12),
+        NodeRef(13),
+        NodeRef(14),
+        NodeRef(15),
+        NodeRef(16),
+        NodeRef(17),
+        NodeRef(18),
+        NodeRef(19),
+        NodeRef(20),
+        NodeRef(21),
+        NodeRef(22),
+        NodeRef(23),
+        NodeRef(24),
+        NodeRef(25),
+        NodeRef(26),
+        NodeRef(27),
+        NodeRef(28),
+        NodeRef(29),
+        NodeRef(30),
+        NodeRef(31),
+        NodeRef(32),
+        NodeRef(33),
+        NodeRef(34),
+        NodeRef(35),
+        NodeRef(36),
+        NodeRef(37),
+        NodeRef(3),
+        NodeRef(3),
+        NodeRef(2),
+        NodeRef(0),
+        NodeRef(0),
+        NodeRef(0),
+    ]
+}
+
+fn run_lower(
+    text: &[u8],
+    at: usize,
+    list: &mut [u64],
+    names: &mut [u8],
+    edges: &mut [u64],
+    dispatches: &mut [u64],
+    bads: &mut [u64],
+    state: State,
+) -> Step {
+    let address = read_decimal(text, at);
+    let kind = read_decimal(text, address.next);
+    let rd = read_decimal(text, kind.next);
+    let rs1 = read_decimal(text, rd.next);
+    let rs2 = read_decimal(text, rs1.next);
+    let imm = read_decimal(text, rs2.next);
+    let flag = read_decimal(text, imm.next);
+    let i = Instruction {
+        kind: kind.value,
+        rd: rd.value,
+        rs1: rs1.value,
+        rs2: rs2.value,
+        imm: imm.value,
+    };
+    let place = NodeRef(flag.value as usize);
+    let lowered = lowering::lower(
+        list,
+        names,
+        edges,
+        dispatches,
+        bads,
+        state,
+        i,
+        address.value,
+        place,
+    );
+    let after = lowered.state;
+    if lowered.refusal == 0 {
+        show_lowered(list, names, edges, dispatches, bads, state, after);
+    } else {
+        io::write_all(STDOUT_FILENO, b"refused ");
+        show(lowered.refusal, b"\n");
+    }
+    let emptied = without_edges(after);
+    Step {
+        state: emptied,
+        next: flag.next,
+    }
+}
+
+// The next call writes its edges and dispatches from the front again.
+fn without_edges(state: State) -> State {
+    let tally = state.tally;
+    let counts = state.counts;
+    let roles = state.roles;
+    State {
+        tally,
+        counts: Counts {
+            names: counts.names,
+            edges: 0,
+            dispatches: 0,
+            bads: counts.bads,
+        },
+        roles,
+    }
+}
+
+fn run_counts(text: &[u8], at: usize, state: State) -> Step {
+    let lines = read_decimal(text, at);
+    let nid = read_decimal(text, lines.next);
+    let names = read_decimal(text, nid.next);
+    let edges = read_decimal(text, names.next);
+    let dispatches = read_decimal(text, edges.next);
+    let bads = read_decimal(text, dispatches.next);
+    let roles = state.roles;
+    let set = State {
+        tally: Tally {
+            lines: lines.value as usize,
+            nid: nid.value,
+        },
+        counts: Counts {
+            names: names.value as usize,
+            edges: edges.value as usize,
+            dispatches: dispatches.value as usize,
+            bads: bads.value as usize,
+        },
+        roles,
+    };
+    Step {
+        state: set,
+        next: bads.next,
+    }
+}
+
+fn run_role(text: &[u8], at: usize, state: State) -> Step {
+    let role = read_decimal(text, at);
+    let place = read_decimal(text, role.next);
+    let tally = state.tally;
+    let counts = state.counts;
+    let places = state.roles;
+    let roles = with_role(places, role.value as usize, NodeRef(place.value as usize));
+    let set = State {
+        tally,
+        counts,
+        roles,
+    };
+    Step {
+        state: set,
+        next: place.next,
+    }
+}
+
+fn with_role(roles: [NodeRef; 79], role: usize, place: NodeRef) -> [NodeRef; 79] {
+    if role >= roles::ROLES {
+        return roles;
+    }
+    let mut next = roles;
+    next[role] = place;
+    next
+}
+
+// What a call changed: the state before it says where it wrote.
+fn show_lowered(
+    list: &[u64],
+    names: &[u8],
+    edges: &[u64],
+    dispatches: &[u64],
+    bads: &[u64],
+    before: State,
+    after: State,
+) {
+    let old = before.tally;
+    let new = after.tally;
+    let from = before.counts;
+    let to = after.counts;
+    show_lines(list, names, old.lines, new.lines);
+    show_edges(edges, from.edges, to.edges);
+    show_dispatches(dispatches, from.dispatches, to.dispatches);
+    show_bads(bads, from.bads, to.bads);
+    show_counts(new, to);
+    let roles = after.roles;
+    show_flows(roles);
+}
+
+fn show_lines(list: &[u64], names: &[u8], from: usize, to: usize) {
+    let mut place = from;
+    while place < to {
+        match btor2_list::get(list, NodeRef(place)) {
+            Found::Line(line) => show_line(names, line),
+            Found::Outside => {
+                io::write_all(STDOUT_FILENO, b"outside\n");
+            }
+        }
+        place += 1;
+    }
+}
+
+fn show_line(names: &[u8], line: Line) {
+    show(line.nid.0, b" ");
+    show(line.kind, b" ");
+    show(line.sort, b" ");
+    show(line.op1.0 as u64, b" ");
+    show(line.op2.0 as u64, b" ");
+    show(line.op3.0 as u64, b" ");
+    show(line.imm, b" ");
+    show(line.name.area, b" ");
+    show(line.name.at, b" ");
+    show(line.name.len, b"\n");
+    if line.kind == BAD {
+        io::write_all(STDOUT_FILENO, btor2_name::name_bytes(b"", names, line.name));
+        io::write_all(STDOUT_FILENO, b"\n");
+    }
+}
+
+fn show_edges(edges: &[u64], from: usize, to: usize) {
+    let mut at = from;
+    while at < to {
+        show_edge(edges, at);
+        at += 1;
+    }
+}
+
+fn show_edge(edges: &[u64], at: usize) {
+    if edges.len() / edges::EDGE <= at {
+        return;
+    }
+    let b = at * edges::EDGE;
+    io::write_all(STDOUT_FILENO, b"edge ");
+    show(edges[b], b" ");
+    show(edges[b + 1], b" ");
+    show(edges[b + 2], b" ");
+    show(edges[b + 3], b"\n");
+}
+
+fn show_dispatches(dispatches: &[u64], from: usize, to: usize) {
+    let mut at = from;
+    while at < to {
+        show_dispatch(dispatches, at);
+        at += 1;
+    }
+}
+
+fn show_dispatch(dispatches: &[u64], at: usize) {
+    if dispatches.len() / edges::DISPATCH <= at {
+        return;
+    }
+    let b = at * edges::DISPATCH;
+    io::write_all(STDOUT_FILENO, b"dyn ");
+    show(dispatches[b], b" ");
+    show(dispatches[b + 1], b"\n");
+}
+
+fn show_bads(bads: &[u64], from: usize, to: usize) {
+    let mut at = from;
+    while at < to {
+        if at < bads.len() {
+            io::write_all(STDOUT_FILENO, b"bad ");
+            show(bads[at], b"\n");
+        }
+        at += 1;
+    }
+}
+
+fn show_counts(tally: Tally, counts: Counts) {
+    io::write_all(STDOUT_FILENO, b"counts ");
+    show(tally.lines as u64, b" ");
+    show(tally.nid, b" ");
+    show(counts.names as u64, b" ");
+    show(counts.edges as u64, b" ");
+    show(counts.dispatches as u64, b" ");
+    show(counts.bads as u64, b"\n");
+}
+
+// The flow of x1 is the first.
+fn show_flows(roles: [NodeRef; 79]) {
+    io::write_all(STDOUT_FILENO, b"flows");
+    for role in 39..79 {
+        io::write_all(STDOUT_FILENO, b" ");
+        let place = roles[role];
+        io::print_decimal(STDOUT_FILENO, place.0 as u64);
+    }
+    io::write_all(STDOUT_FILENO, b"\n");
+}
+
+fn show(n: u64, after: &[u8]) {
+    io::print_decimal(STDOUT_FILENO, n);
+    io::write_all(STDOUT_FILENO, after);
+}

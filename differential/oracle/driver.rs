@@ -1,0 +1,336 @@
+// The listing's loop around the Rust's translate_to_model and write_model.
+use super::*;
+use crate::unicorn::{get_nid, write_model};
+use riscu::types::NoFields;
+use std::io::{self, BufRead, Write};
+use std::panic::{catch_unwind, set_hook, take_hook, AssertUnwindSafe};
+use std::sync::atomic::{AtomicBool, Ordering::Relaxed};
+
+type Answer<T> = std::result::Result<T, &'static str>;
+
+const MALFORMED: &str = "; malformed"; // not the listing's grammar
+const UNENCODABLE: &str = "; unencodable"; // a record that no instruction word holds, so that riscu never hands it on
+const PANIC: &str = "; panic"; // the Rust panics
+
+struct Line {
+    address: u64,
+    inst: Instruction,
+    imm: i32,
+}
+
+//
+// Input
+//
+
+fn number(text: &[u8], limit: u128) -> Answer<u64> {
+    let plain = !text.is_empty()
+        && text.len() <= 20
+        && text.iter().all(u8::is_ascii_digit)
+        && (text == b"0" || text[0] != b'0');
+    if !plain {
+        return Err(MALFORMED);
+    }
+    let value = text.iter().fold(0, |n, digit| 10 * n + u128::from(digit - b'0'));
+    if value < limit {
+        Ok(value as u64)
+    } else {
+        Err(MALFORMED)
+    }
+}
+
+fn immediate(text: &[u8]) -> Answer<i32> {
+    match text {
+        b"-0" => Err(MALFORMED),
+        [b'-', digits @ ..] => Ok(-(number(digits, (1 << 31) + 1)? as i64) as i32),
+        digits => Ok(number(digits, 1 << 31)? as i32),
+    }
+}
+
+fn parse(line: &[u8]) -> Answer<Line> {
+    let fields: Vec<&[u8]> = line.split(|byte| *byte == b' ').collect();
+    if line.len() > 256 || fields.len() != 6 {
+        return Err(MALFORMED);
+    }
+    let address = number(fields[0], 1 << 64)?;
+    let kind = fields[1];
+    if kind.is_empty() || !kind.iter().all(u8::is_ascii_alphabetic) {
+        return Err(MALFORMED);
+    }
+    let record = Record {
+        rd: number(fields[2], 256)? as u32,
+        rs1: number(fields[3], 256)? as u32,
+        rs2: number(fields[4], 256)? as u32,
+        imm: immediate(fields[5])?,
+    };
+    let inst = record.instruction(std::str::from_utf8(kind).unwrap())?;
+    Ok(Line { address, inst, imm: record.imm })
+}
+
+struct Record {
+    rd: u32,
+    rs1: u32,
+    rs2: u32,
+    imm: i32,
+}
+
+fn reg(number: u32) -> Answer<Register> {
+    if number < 32 {
+        Ok(Register::from(number))
+    } else {
+        Err(UNENCODABLE)
+    }
+}
+
+// Each format takes the fields that it has and looks at no other.
+impl Record {
+    fn imm(&self, low: i32, high: i32, step: i32) -> Answer<i32> {
+        if low <= self.imm && self.imm <= high && self.imm % step == 0 {
+            Ok(self.imm)
+        } else {
+            Err(UNENCODABLE)
+        }
+    }
+    fn r(&self) -> Answer<RType> {
+        Ok(RType::new(reg(self.rd)?, reg(self.rs1)?, reg(self.rs2)?))
+    }
+    fn i(&self) -> Answer<IType> {
+        Ok(IType::new(reg(self.rd)?, reg(self.rs1)?, self.imm(-2048, 2047, 1)?))
+    }
+    fn s(&self) -> Answer<SType> {
+        Ok(SType::new(reg(self.rs1)?, reg(self.rs2)?, self.imm(-2048, 2047, 1)?))
+    }
+    fn b(&self) -> Answer<BType> {
+        Ok(BType::new(reg(self.rs1)?, reg(self.rs2)?, self.imm(-4096, 4094, 2)?))
+    }
+    fn u(&self) -> Answer<UType> {
+        Ok(UType::new(reg(self.rd)?, self.imm(0, 1048575, 1)? as u32))
+    }
+    fn j(&self) -> Answer<JType> {
+        Ok(JType::new(reg(self.rd)?, self.imm(-1048576, 1048574, 2)?))
+    }
+    fn none(&self) -> Answer<NoFields> {
+        Ok(NoFields::new())
+    }
+
+    fn instruction(&self, kind: &str) -> Answer<Instruction> {
+        macro_rules! kinds {
+            ($($form:ident: $($name:ident)*;)*) => {
+                match kind {
+                    $($(stringify!($name) => Instruction::$name(self.$form()?),)*)*
+                    _ => Instruction::Other(self.none()?),
+                }
+            };
+        }
+        Ok(kinds! {
+            u: Lui Auipc;
+            i: Lb Lh Lw Ld Lbu Lhu Addi Sltiu Xori Ori Andi Slli Srli Srai Addiw Slliw Srliw Sraiw Jalr;
+            s: Sb Sh Sw Sd;
+            r: Add Sub Sll Sltu Srl Sra Or And Mul Div Divu Remu Addw Divw Subw Sllw Mulw;
+            b: Beq Bne Blt Bge Bltu Bgeu;
+            j: Jal;
+            none: Ecall Lwu;
+        })
+    }
+}
+
+//
+// The start, identifiers 20 to 58
+//
+
+fn start() -> (ModelBuilder, NodeRef) {
+    let model_values = ModelValues {
+        is_64bit: true,
+        run_32bit: false,
+        word_size_mask: riscu::WORD_SIZE as u64 - 1,
+        bits_per_byte: 8,
+        size_of: size_of::<u64>(),
+        bits: 64,
+    };
+    let mut b = ModelBuilder::new(0, 0, 0, model_values);
+    b.current_nid = 20;
+    b.zero_bit = b.add_node(Node::Const { nid: 20, sort: NodeType::Bit, imm: 0 });
+    b.one_bit = b.add_node(Node::Const { nid: 21, sort: NodeType::Bit, imm: 1 });
+    b.zero_word = b.new_const(0);
+    b.one_word = b.new_const(1);
+    b.register_nodes.push(b.zero_word.clone());
+    for r in 1..NUMBER_OF_REGISTERS {
+        let node = b.new_state(None, format!("x{}", r), NodeType::Word);
+        b.register_nodes.push(node.clone());
+        b.register_flow.push(node);
+        b.dynamic.push(vec![]);
+    }
+    b.memory_node = b.new_state(None, "memory".to_string(), NodeType::Memory);
+    b.memory_counter_node = b.new_state(None, "counter".to_string(), NodeType::Memory);
+    b.memory_counter_max_node = b.new_state(None, "counter-max".to_string(), NodeType::Word);
+    let flag = b.new_state(None, "flag".to_string(), NodeType::Bit);
+    b.memory_flow = b.memory_node.clone();
+    b.memory_counter_flow = b.memory_counter_node.clone();
+    b.memory_counter_max_flow = b.memory_counter_max_node.clone();
+    b.division_flow = b.one_word.clone();
+    b.remainder_flow = b.one_word.clone();
+    b.access_flow = b.zero_word.clone();
+    b.addition_overflow = b.zero_bit.clone();
+    b.multiplication = b.zero_bit.clone();
+    b.ecall_flow = b.zero_bit.clone();
+    assert_eq!((get_nid(&flag), b.current_nid), (58, 59));
+    (b, flag)
+}
+
+//
+// What a lowering changes: saved before it, put back where it panics
+//
+
+fn single_flows(b: &mut ModelBuilder) -> [&mut NodeRef; 9] {
+    [
+        &mut b.memory_flow,
+        &mut b.memory_counter_flow,
+        &mut b.memory_counter_max_flow,
+        &mut b.division_flow,
+        &mut b.remainder_flow,
+        &mut b.access_flow,
+        &mut b.addition_overflow,
+        &mut b.multiplication,
+        &mut b.ecall_flow,
+    ]
+}
+
+struct Saved {
+    lines: usize,
+    sequentials: usize,
+    bad_states: usize,
+    current_nid: Nid,
+    register_flow: Vec<NodeRef>,
+    single_flows: Vec<NodeRef>,
+}
+
+fn save(b: &mut ModelBuilder) -> Saved {
+    Saved {
+        lines: b.lines.len(),
+        sequentials: b.sequentials.len(),
+        bad_states: b.bad_states.len(),
+        current_nid: b.current_nid,
+        register_flow: b.register_flow.clone(),
+        single_flows: single_flows(b).into_iter().map(|flow| flow.clone()).collect(),
+    }
+}
+
+fn put_back(b: &mut ModelBuilder, saved: Saved) {
+    b.lines.truncate(saved.lines);
+    b.sequentials.truncate(saved.sequentials);
+    b.bad_states.truncate(saved.bad_states);
+    b.current_nid = saved.current_nid;
+    b.register_flow = saved.register_flow;
+    for (flow, old) in single_flows(b).into_iter().zip(saved.single_flows) {
+        *flow = old;
+    }
+}
+
+//
+// Output
+//
+
+// What write_model prints for these nodes, header and trailer included.
+fn printed(nodes: &[NodeRef]) -> io::Result<String> {
+    let model = Model {
+        lines: nodes.to_vec(),
+        sequentials: vec![],
+        bad_states_initial: vec![],
+        bad_states_sequential: vec![],
+        data_range: 0..0,
+        heap_range: 0..0,
+        stack_range: 0..0,
+        memory_size: 0,
+    };
+    let mut out = Vec::new();
+    write_model(&model, &mut out, true).map_err(|error| io::Error::other(error.to_string()))?;
+    Ok(String::from_utf8(out).unwrap())
+}
+
+const TRAILER: &str = "\n; end of BTOR2 file\n";
+
+fn node_lines<'a>(text: &'a str, header: &str) -> io::Result<&'a str> {
+    text.strip_prefix(header)
+        .and_then(|rest| rest.strip_suffix(TRAILER))
+        .ok_or(io::Error::other("write_model: unknown header or trailer"))
+}
+
+static QUIET: AtomicBool = AtomicBool::new(false); // while the Rust runs, a panic's message is not written
+
+fn panics(b: &mut ModelBuilder, inst: Instruction) -> bool {
+    QUIET.store(true, Relaxed);
+    let outcome = catch_unwind(AssertUnwindSafe(|| b.translate_to_model(inst)));
+    QUIET.store(false, Relaxed);
+    outcome.is_err()
+}
+
+fn lower<W: Write>(b: &mut ModelBuilder, flag: &NodeRef, header: &str, line: &Line, out: &mut W) -> io::Result<()> {
+    let saved = save(b);
+    let before = saved.lines;
+    b.pc = line.address;
+    b.pc_flags = HashMap::from([(line.address, flag.clone())]);
+    b.control_in.clear();
+    b.dynamic.iter_mut().for_each(Vec::clear);
+
+    if panics(b, line.inst) {
+        put_back(b, saved);
+        return writeln!(out, "{}", PANIC);
+    }
+
+    let text = printed(&b.lines[before..])?;
+    for node_line in node_lines(&text, header)?.lines() {
+        // Only a bad line's name has this: what follows is riscu's debug text.
+        writeln!(out, "{}", node_line.split(" ; ").next().unwrap())?;
+    }
+    // A lowering pushes edges to pc + imm (first) and to pc + 4 only; edges to one address stand in the order pushed.
+    for to in [b.pc_add(line.imm as u64), b.pc_add(INSTRUCTION_SIZE)] {
+        for edge in b.control_in.remove(&to).unwrap_or_default() {
+            let kind = match edge.from_instruction {
+                FromInstruction::Regular => "regular",
+                FromInstruction::Branch => "branch",
+                FromInstruction::SystemCall => "syscall",
+            };
+            let condition = edge.condition.map_or("-".to_string(), |node| get_nid(&node).to_string());
+            writeln!(out, "; in {} from {} {} {}", to, edge.from_address, kind, condition)?;
+        }
+    }
+    if !b.control_in.is_empty() {
+        return Err(io::Error::other("an edge to an address other than pc + imm and pc + 4"));
+    }
+    for (place, dispatches) in b.dynamic.iter().enumerate() {
+        for dispatch in dispatches {
+            writeln!(out, "; dyn {} {}", place + 1, dispatch.dispatch_address)?;
+        }
+    }
+    Ok(())
+}
+
+pub fn run(flows: bool) -> io::Result<()> {
+    let (mut b, flag) = start();
+    let mut out = io::BufWriter::new(io::stdout().lock());
+    let empty = printed(&[])?;
+    let header = empty.strip_suffix(TRAILER).ok_or(io::Error::other("write_model: unknown trailer"))?;
+
+    let usual = take_hook();
+    set_hook(Box::new(move |info| {
+        if !QUIET.load(Relaxed) {
+            usual(info)
+        }
+    }));
+    for line in io::stdin().lock().split(b'\n') {
+        match parse(&line?) {
+            Ok(line) => lower(&mut b, &flag, header, &line, &mut out)?,
+            Err(answer) => writeln!(out, "{}", answer)?,
+        }
+    }
+    if flows {
+        write!(out, "; flows")?;
+        let registers = b.register_flow.clone();
+        for flow in registers.iter().chain(single_flows(&mut b).into_iter().map(|flow| &*flow)) {
+            write!(out, " {}", get_nid(flow))?;
+        }
+        writeln!(out)?;
+    }
+    out.flush()?;
+    std::mem::forget(b);
+    Ok(())
+}

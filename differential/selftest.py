@@ -1,0 +1,129 @@
+#!/usr/bin/env python3
+"""selftest.py [ORACLE]: tries the oracle on what document 01 states. The last line says how many tests passed."""
+import os
+import subprocess
+import sys
+
+HERE = os.path.dirname(os.path.abspath(__file__))
+ORACLE = sys.argv[1] if len(sys.argv) > 1 else os.path.join(HERE, "target", "oracle")
+passed = failed = 0
+
+
+def run(lines, *flags):
+    text = "".join(line + "\n" for line in lines)
+    done = subprocess.run([ORACLE, *flags], input=text, capture_output=True, text=True, check=True)
+    return done.stdout.splitlines()
+
+
+def blocks(lines):
+    """The output line by line of input: an empty input line, answered `; malformed`, parts them."""
+    out = [[]]
+    for line in run([part for line in lines for part in (line, "")]):
+        if line == "; malformed":
+            out.append([])
+        else:
+            out[-1].append(line)
+    return out[:-1]
+
+
+def test(name, got, wanted):
+    global passed, failed
+    if got == wanted:
+        passed += 1
+    else:
+        failed += 1
+        print(f"{name}\n  got    {got}\n  wanted {wanted}")
+
+
+test("the example of document 01", run(["65536 Lui 5 0 0 1", "65540 Bltu 0 5 6 -4", "65544 Srliw 5 5 0 0"]), [
+    "59 constd 2 4096", "60 ite 2 58 59 28", "; in 65540 from 65536 regular -", "61 ult 1 28 29", "62 not 1 61",
+    "; in 65536 from 65540 branch 61", "; in 65544 from 65540 branch 62", "; panic"])
+
+# "Lines appended", with imm 4 and with imm 0 (Srliw by 0 panics).
+SAME = {2: "Lui Auipc And", 3: "Andi Slli Srli Sltu Div Divu Remu", 4: "Sltiu Sll Srl", 5: "Or", 6: "Ori", 7: "Srai",
+        8: "Xori Sra", 9: "Slliw Sraiw", 10: "Addiw", 11: "Add Sub Sllw", 15: "Divw", 16: "Mul", 18: "Addw Subw",
+        35: "Mulw"}
+ADDRESS = {13: "Lbu Lhu", 17: "Lb Lh Lw", 10: "Ld", 27: "Sb Sh Sw", 5: "Sd"}
+NO_RD = {2: "Beq Bltu", 3: "Bne Bgeu", 5: "Blt", 6: "Bge", 1: "Ecall"}
+cases = []  # (kind, rd, rs1, imm, lines), None for a panic
+for table, imm_adds in ((SAME, 0), (ADDRESS, 2), (NO_RD, 0)):
+    for count, kinds in table.items():
+        for kind in kinds.split():
+            cases += [(kind, 5, 6, 4, count + imm_adds), (kind, 5, 6, 0, count)]
+            no_panic = table is NO_RD or kind in "Sb Sh Sw Sd".split()
+            cases.append((kind, 0, 6, 4, count + imm_adds if no_panic else None))
+cases += [("Srliw", 5, 6, 4, 5), ("Srliw", 5, 6, 0, None), ("Srliw", 0, 6, 0, None),
+          ("Addi", 5, 6, 4, 12), ("Addi", 5, 0, 4, 12), ("Addi", 5, 6, 0, 11), ("Addi", 5, 0, 0, 11),
+          ("Addi", 0, 6, 4, 0), ("Addi", 0, 6, 0, 0), ("Jal", 5, 6, 4, 2), ("Jal", 5, 6, 0, 2), ("Jal", 0, 6, 4, 0),
+          ("Jalr", 5, 6, 0, 2), ("Jalr", 0, 6, 0, 0), ("Jalr", 5, 0, 0, 3), ("Jalr", 0, 0, 0, 1), ("Jalr", 5, 0, 8, 3),
+          ("Jalr", 0, 0, 8, 1), ("Jalr", 5, 6, 4, None), ("Jalr", 0, 6, 4, None)]
+for kind, rd, rs1, imm, count in cases:
+    out = run([f"65536 {kind} {rd} {rs1} 7 {imm}"])
+    got = None if out == ["; panic"] else sum(not line.startswith(";") for line in out)
+    test(f"lines of {kind} rd {rd} rs1 {rs1} imm {imm}", got, count)
+test("kinds counted", len({case[0] for case in cases}), 50)
+
+# The start, seen through operands: x0 to x31, memory, counter, counter-max, one, zero, flag.
+for r in range(32):
+    test(f"x{r}", run([f"0 Beq 0 {r} {r} 8"])[0], "59 eq 1 {0} {0}".format(23 + r if r else 22))
+    if r:
+        test(f"flow of x{r}", run([f"0 Lui {r} 0 0 1"])[1], f"60 ite 2 58 59 {23 + r}")
+        test(f"dispatch x{r}", run([f"8 Jalr 0 {r} 0 0"]), [f"; dyn {r} 8"])
+test("Ld", run(["0 Ld 1 2 0 0"])[:10], [
+    "59 ite 2 58 25 22", "60 read 2 56 25", "61 add 2 60 23", "62 ult 1 57 61", "63 ite 2 62 61 57", "64 ite 2 58 63 57",
+    "65 write 3 56 25 61", "66 ite 3 58 65 56", "67 read 2 55 25", "68 ite 2 58 67 24"])
+test("Sd", run(["0 Sd 0 2 3 0"])[:5], [
+    "59 ite 2 58 25 22", "60 write 3 56 25 22", "61 ite 3 58 60 56", "62 write 3 55 25 26", "63 ite 3 58 62 55"])
+test("flows of the start", run([], "--flows"), ["; flows " + " ".join(
+    [str(n) for n in range(24, 58)] + "23 23 22 20 20 20".split())])
+
+# Bench cases.
+test("Slli 63", len(run(["0 Slli 1 1 0 63"])), 4)
+test("Slli 64", run(["0 Slli 1 1 0 64"]), ["; panic"])
+test("Srliw 31", len(run(["0 Srliw 1 1 0 31"])), 6)
+test("Srliw 32", run(["0 Srliw 1 1 0 32"]), ["; panic"])
+test("Addi x0", run(["0 Addi 0 1 0 5"]), ["; in 4 from 0 regular -"])
+test("Auipc", run(["65536 Auipc 1 0 0 1048575"])[0], "59 constd 2 61440")
+test("Auipc past 2^64", run(["18446744073709551612 Auipc 1 0 0 1"])[0], "59 constd 2 4092")
+test("Lui", run(["0 Lui 1 0 0 524288"])[0], "59 constd 2 18446744071562067968")
+test("Jal", run(["18446744073709551612 Jal 0 0 0 4"]), ["; in 0 from 18446744073709551612 regular -"])
+test("Bgeu 4", run(["0 Bgeu 0 1 2 4"]), [
+    "59 ult 1 24 25", "60 not 1 59", "61 not 1 60", "; in 4 from 0 branch 60", "; in 4 from 0 branch 61"])
+test("Beq back", run(["0 Beq 0 1 2 -4096"])[2:], [
+    "; in 18446744073709547520 from 0 branch 59", "; in 4 from 0 branch 60"])
+test("Ecall", run(["0 Ecall 255 255 255 -1"]), ["59 ite 1 58 21 20", "; in 4 from 0 syscall -"])
+test("Jalr x0, x0", run(["43981 Jalr 0 0 0 8"]), ["59 bad 58 unimplemented-pc-abcd"])
+for kind in "Lwu Xor Slt Fence addi".split():
+    test(kind, run([f"0 {kind} 255 1 1 9999"]), ["; panic"])
+test("negative amount, lowered by the Rust", run(["0 Slli 1 1 0 -1"])[0], "59 constd 2 18446744073709551615")
+for line in ["0 Add 32 1 1 0", "0 Add 1 255 1 0", "0 Add 1 1 32 0", "0 Addi 0 32 0 0", "0 Addi 1 1 0 2048",
+             "0 Sd 0 1 1 -2049", "0 Beq 0 1 1 3", "0 Beq 0 1 1 4096", "0 Jal 1 0 0 1048576", "0 Lui 1 0 0 -1",
+             "0 Lui 1 0 0 1048576"]:
+    test(line, run([line]), ["; unencodable"])
+for line in ["", "0", "0 Add 1 1 1", "0 Add 1 1 1 0 ", " 0 Add 1 1 1 0", "0  Add 1 1 1 0", "00 Add 1 1 1 0",
+             "18446744073709551616 Add 1 1 1 0", "0 Add1 1 1 1 0", "0 Add 256 1 1 0", "0 Add 01 1 1 0", "0 Add -1 1 1 0",
+             "0 Addi 1 1 1 -0", "0 Addi 1 1 1 +1", "0 Addi 1 1 1 01", "0 Addi 1 1 1 2147483648", "0 Addi 1 1 1 -2147483649",
+             "0 Addi 1 1 1 4\r", "0 " + "A" * 247 + " 1 1 1 0", "0 Addi 1 1 1 " + "9" * 60]:
+    test(f"malformed {line[:40]!r}", run([line]), ["; malformed"])
+test("256 bytes", run(["0 " + "A" * 246 + " 1 1 1 0"]), ["; panic"])
+test("no last newline", subprocess.run([ORACLE], input=b"0 Lui 1 0 0 1", capture_output=True).stdout,
+     b"59 constd 2 4096\n60 ite 2 58 59 24\n; in 4 from 0 regular -\n")
+
+# Generated lines: identifiers rise by one, and a refused line leaves no trace.
+for seed in range(1, 6):
+    more = [] if seed < 5 else ["--negative-amounts"]
+    lines = subprocess.run([sys.executable, os.path.join(HERE, "generate.py"), str(seed), "1000", *more],
+                           capture_output=True, text=True, check=True).stdout.splitlines()
+    out = run(lines, "--flows")
+    refused = ("; panic", "; unencodable")
+    each = blocks(lines)
+    test(f"seed {seed}, blocks", [line for block in each for line in block], out[:-1])
+    test(f"seed {seed}, a refusal stands alone", [b for b in each if set(b) & set(refused) and len(b) > 1], [])
+    numbers = [int(line.split()[0]) for line in out if not line.startswith(";")]
+    test(f"seed {seed}, identifiers", numbers, list(range(59, 59 + len(numbers))))
+    kept = [line for line, block in zip(lines, each) if block[0] not in refused]
+    test(f"seed {seed}, without the refused lines", run(kept, "--flows"), [line for line in out if line not in refused])
+    test(f"seed {seed}, kinds accepted", len({line.split()[1] for line in kept}), 50)
+
+print(f"{passed} passed, {failed} failed")
+sys.exit(failed != 0)
