@@ -1,0 +1,26 @@
+-- One piece behind the other. Assumes nothing.
+use Rattle.text.proofs.Laws.{then, put-length}
+use Rattle.node_text.specs.Row.{rowText}
+use borrow.Author.Needs.{needs}
+use Rattle.node_text.proofs.put_row.Statement.{statement}
+use Rattle.node_text.proofs.put_row.Tie as tie
+
+returns : tie.Need-returns
+unfolding rowText
+returns c =
+    let s8 = c .before .before in
+    let s7 = s8 .before .before .before .before in
+    let s6 = s7 .before .before .before .before in
+    let s5 = s6 .before .before .before .before in
+    let s4 = s5 .before .before .before .before in
+    let s3 = s4 .before .before .before .before in
+    let s2 = s3 .before .before .before .before in
+    let s1 = s2 .before .before .before .before in
+    let s0 = s1 .before .before .before .before in
+    let h = s0 .before .before .before .before .good .0 .0 in
+    then h (then h (then h (then h (then h (then h (then h (then h (s0 .put-decimal .ensures) (s1 .put-byte .ensures)) (s2 .put-word .ensures)) (s3 .put-field .ensures)) (s4 .put-field2 .ensures)) (s5 .put-field3 .ensures)) (s6 .put-field4 .ensures)) (s7 .put-name .ensures)) (s8 .put-byte2 .ensures)
+
+pub put-row-spec : {M : Type 1} → statement M
+put-row-spec =
+    tie.close
+    (tie.spec (λ c κs. search needs) (λ c κs. search needs) (λ c κs. search needs) (λ c κs. search needs) (λ c κs. search needs) (λ c κs. search needs) (λ c κs. search needs) (λ c κs. search needs) (λ c κs. search needs) (λ c. put-length (returns c)) returns)

@@ -1,0 +1,95 @@
+// Node lines as text: a row is an identifier, a word, some numbers and a name.
+ghost use mathlib.Core.Path.{_≡_};
+ghost use Prim.Native.Nat.{_+_, _<_, _≤_};
+ghost use lib.ListN.{length, take, drop};
+ghost use Rattle.text.specs.Put.{Put};
+ghost use Rattle.node_text.specs.Words.{word};
+ghost use Rattle.node_text.specs.Row.{fieldText, nameText, rowText};
+
+// How many words there are, and the bytes that each takes in the table.
+const WORDS: usize = 23;
+
+const PADDED: usize = 6;
+
+fn word_len(k: usize) -> usize
+    requires { ⌜ k < 23 ⌝ }
+    ensures is { λ r. ⌜ r ≡ length (word k) ⌝ }
+    ensures most { λ r. ⌜ r ≤ 6 ⌝ }
+{
+    let lens =
+        b"\x06\x04\x05\x03\x03\x03\x04\x04\x04\x03\x03\x03\x04\x03\x02\x03\x02\x03\x05\x04\x04\x05\x03";
+    let n = lens[k];
+    n as usize
+}
+
+// The word of a number, nothing past the last.
+pub fn put_word(out: &mut [u8], at: usize, k: usize) -> usize
+    ensures { λ r. ⌜ Put (now (out .entry)) at (word k) (now (out .exit)) r ⌝ }
+{
+    if WORDS <= k {
+        return at;
+    }
+    let letters =
+        b"constdread  write add   sub   mul   udiv  sdiv  urem  sll   srl   ult   uext  ite   eq    and   or    not   state init  next  input bad   ";
+    let n = word_len(k);
+    put_part(out, at, letters, PADDED * k, n)
+}
+
+// The n bytes of s from a place on.
+fn put_part(out: &mut [u8], at: usize, s: &[u8], from: usize, n: usize) -> usize
+    requires { ⌜ from + n ≤ length (now s) ⌝ }
+    ensures { λ r. ⌜ Put (now (out .entry)) at (take n (drop from (now (s .entry)))) (now (out .exit)) r ⌝ }
+{
+    let e = from + n;
+    text::put_bytes(out, at, &s[from..e])
+}
+
+// A space and a number, where `on`.
+pub fn put_field(out: &mut [u8], at: usize, on: bool, x: u64) -> usize
+    ensures { λ r. ⌜ Put (now (out .entry)) at (fieldText on x) (now (out .exit)) r ⌝ }
+{
+    if on {
+        let p = text::put_byte(out, at, 32);
+        return text::put_decimal(out, p, x);
+    }
+    at
+}
+
+// A space and a name, where `on`.
+pub fn put_name(out: &mut [u8], at: usize, on: bool, name: &[u8]) -> usize
+    ensures { λ r. ⌜ Put (now (out .entry)) at (nameText on (now (name .entry))) (now (out .exit)) r ⌝ }
+{
+    if on {
+        let p = text::put_byte(out, at, 32);
+        return text::put_bytes(out, p, name);
+    }
+    at
+}
+
+// A line as printed: its identifier, its word, the first n of four numbers, and its name where it is named.
+pub struct Row {
+    pub nid: u64,
+    pub word: usize,
+    pub n: u8,
+    pub a: u64,
+    pub b: u64,
+    pub c: u64,
+    pub d: u64,
+    pub named: bool,
+}
+
+pub fn put_row(out: &mut [u8], at: usize, row: Row, name: &[u8]) -> usize
+    ensures { λ r. ⌜ Put (now (out .entry)) at (rowText row (now (name .entry))) (now (out .exit)) r ⌝ }
+{
+    let word = row.word;
+    let n = row.n;
+    let p = text::put_decimal(out, at, row.nid);
+    let p0 = text::put_byte(out, p, 32);
+    let p1 = put_word(out, p0, word);
+    let p2 = put_field(out, p1, 0 < n, row.a);
+    let p3 = put_field(out, p2, 1 < n, row.b);
+    let p4 = put_field(out, p3, 2 < n, row.c);
+    let p5 = put_field(out, p4, 3 < n, row.d);
+    let p6 = put_name(out, p5, row.named, name);
+    text::put_byte(out, p6, 10)
+}
