@@ -25,11 +25,13 @@ use btor2_list::SUB;
 use btor2_list::ULT;
 use btor2_list::WRITE;
 ghost use mathlib.Core.Path.{_≡_};
-ghost use Rattle.btor2.specs.Op.{add, sub, mul, udiv, sdiv, urem, sll, srl, ult};
-ghost use Rattle.btor2_list.specs.Node.{row};
+ghost use Rattle.btor2.specs.Sort.{sortNumber};
+ghost use Rattle.btor2.specs.Op.{binSort};
+ghost use Rattle.btor2_list.specs.Node.{row, noName, binKind};
 ghost use Rattle.program.specs.OneLine.{newConst, newRead, newWrite, newBin, newExt, newIte, newEq, newAndBit, newAndWord, newNotBit, newNotWord, newBad};
 ghost use Rattle.builder.specs.Append.{appendLine, at, made};
 ghost use Rattle.builder.specs.Gives.{Gives};
+ghost use Rattle.builder.specs.Operator.{binOf};
 
 // The count of lines, and the next identifier.
 pub struct Tally {
@@ -43,6 +45,19 @@ pub struct Made {
     pub node: NodeRef,
 }
 
+// The operators on two words that take one line.
+pub enum Bin {
+    Add,
+    Sub,
+    Mul,
+    Divu,
+    Div,
+    Rem,
+    Sll,
+    Srl,
+    Ult,
+}
+
 // The sorts as printed.
 const BIT: u64 = 1;
 
@@ -51,7 +66,7 @@ const WORD: u64 = 2;
 const MEMORY: u64 = 3;
 
 // Appends a line of these fields under the next identifier.
-pub fn append(
+fn append(
     list: &mut [u64],
     t: Tally,
     kind: u64,
@@ -91,6 +106,35 @@ pub fn append(
     }
 }
 
+// A line with neither constant nor name.
+fn plain(
+    list: &mut [u64],
+    t: Tally,
+    kind: u64,
+    sort: u64,
+    op1: NodeRef,
+    op2: NodeRef,
+    op3: NodeRef,
+) -> Made
+    ensures { λ r. ⌜ made (now (list .exit)) r ≡ appendLine (at (now (list .entry)) t) (row (t .nid) kind sort (op1 .0) (op2 .0) (op3 .0) 0 noName) ⌝ }
+{
+    append(
+        list,
+        t,
+        kind,
+        sort,
+        op1,
+        op2,
+        op3,
+        0,
+        Name {
+            area: 0,
+            at: 0,
+            len: 0,
+        },
+    )
+}
+
 pub fn new_const(list: &mut [u64], t: Tally, imm: u64) -> Made
     ensures { λ r. ⌜ Gives (now (list .entry)) t (newConst imm) (now (list .exit)) (r .tally) (r .node .0) ⌝ }
 {
@@ -114,21 +158,7 @@ pub fn new_const(list: &mut [u64], t: Tally, imm: u64) -> Made
 pub fn new_read(list: &mut [u64], t: Tally, memory: NodeRef, address: NodeRef) -> Made
     ensures { λ r. ⌜ Gives (now (list .entry)) t (newRead (memory .0) (address .0)) (now (list .exit)) (r .tally) (r .node .0) ⌝ }
 {
-    append(
-        list,
-        t,
-        READ,
-        WORD,
-        memory,
-        address,
-        NodeRef(0),
-        0,
-        Name {
-            area: 0,
-            at: 0,
-            len: 0,
-        },
-    )
+    plain(list, t, READ, WORD, memory, address, NodeRef(0))
 }
 
 pub fn new_write(
@@ -140,221 +170,54 @@ pub fn new_write(
 ) -> Made
     ensures { λ r. ⌜ Gives (now (list .entry)) t (newWrite (memory .0) (address .0) (value .0)) (now (list .exit)) (r .tally) (r .node .0) ⌝ }
 {
-    append(
-        list,
-        t,
-        WRITE,
-        MEMORY,
-        memory,
-        address,
-        value,
-        0,
-        Name {
-            area: 0,
-            at: 0,
-            len: 0,
-        },
-    )
+    plain(list, t, WRITE, MEMORY, memory, address, value)
 }
 
-pub fn new_add(list: &mut [u64], t: Tally, left: NodeRef, right: NodeRef) -> Made
-    ensures { λ r. ⌜ Gives (now (list .entry)) t (newBin add (left .0) (right .0)) (now (list .exit)) (r .tally) (r .node .0) ⌝ }
+fn bin_kind(operator: Bin) -> u64
+    ensures { λ r. ⌜ r ≡ binKind (binOf operator) ⌝ }
 {
-    append(
-        list,
-        t,
-        ADD,
-        WORD,
-        left,
-        right,
-        NodeRef(0),
-        0,
-        Name {
-            area: 0,
-            at: 0,
-            len: 0,
-        },
-    )
+    match operator {
+        Bin::Add => ADD,
+        Bin::Sub => SUB,
+        Bin::Mul => MUL,
+        Bin::Divu => DIVU,
+        Bin::Div => DIV,
+        Bin::Rem => REM,
+        Bin::Sll => SLL,
+        Bin::Srl => SRL,
+        Bin::Ult => ULT,
+    }
 }
 
-pub fn new_sub(list: &mut [u64], t: Tally, left: NodeRef, right: NodeRef) -> Made
-    ensures { λ r. ⌜ Gives (now (list .entry)) t (newBin sub (left .0) (right .0)) (now (list .exit)) (r .tally) (r .node .0) ⌝ }
+fn bin_sort(operator: Bin) -> u64
+    ensures { λ r. ⌜ r ≡ sortNumber (binSort (binOf operator)) ⌝ }
 {
-    append(
-        list,
-        t,
-        SUB,
-        WORD,
-        left,
-        right,
-        NodeRef(0),
-        0,
-        Name {
-            area: 0,
-            at: 0,
-            len: 0,
-        },
-    )
+    match operator {
+        Bin::Add => WORD,
+        Bin::Sub => WORD,
+        Bin::Mul => WORD,
+        Bin::Divu => WORD,
+        Bin::Div => WORD,
+        Bin::Rem => WORD,
+        Bin::Sll => WORD,
+        Bin::Srl => WORD,
+        Bin::Ult => BIT,
+    }
 }
 
-pub fn new_mul(list: &mut [u64], t: Tally, left: NodeRef, right: NodeRef) -> Made
-    ensures { λ r. ⌜ Gives (now (list .entry)) t (newBin mul (left .0) (right .0)) (now (list .exit)) (r .tally) (r .node .0) ⌝ }
+// unicorn's `new_add`, `new_sub`, `new_mul`, `new_divu`, `new_div`, `new_rem`, `new_sll`, `new_srl` and `new_ult`.
+pub fn new_bin(list: &mut [u64], t: Tally, operator: Bin, left: NodeRef, right: NodeRef) -> Made
+    ensures { λ r. ⌜ Gives (now (list .entry)) t (newBin (binOf operator) (left .0) (right .0)) (now (list .exit)) (r .tally) (r .node .0) ⌝ }
 {
-    append(
-        list,
-        t,
-        MUL,
-        WORD,
-        left,
-        right,
-        NodeRef(0),
-        0,
-        Name {
-            area: 0,
-            at: 0,
-            len: 0,
-        },
-    )
-}
-
-pub fn new_divu(list: &mut [u64], t: Tally, left: NodeRef, right: NodeRef) -> Made
-    ensures { λ r. ⌜ Gives (now (list .entry)) t (newBin udiv (left .0) (right .0)) (now (list .exit)) (r .tally) (r .node .0) ⌝ }
-{
-    append(
-        list,
-        t,
-        DIVU,
-        WORD,
-        left,
-        right,
-        NodeRef(0),
-        0,
-        Name {
-            area: 0,
-            at: 0,
-            len: 0,
-        },
-    )
-}
-
-pub fn new_div(list: &mut [u64], t: Tally, left: NodeRef, right: NodeRef) -> Made
-    ensures { λ r. ⌜ Gives (now (list .entry)) t (newBin sdiv (left .0) (right .0)) (now (list .exit)) (r .tally) (r .node .0) ⌝ }
-{
-    append(
-        list,
-        t,
-        DIV,
-        WORD,
-        left,
-        right,
-        NodeRef(0),
-        0,
-        Name {
-            area: 0,
-            at: 0,
-            len: 0,
-        },
-    )
-}
-
-pub fn new_rem(list: &mut [u64], t: Tally, left: NodeRef, right: NodeRef) -> Made
-    ensures { λ r. ⌜ Gives (now (list .entry)) t (newBin urem (left .0) (right .0)) (now (list .exit)) (r .tally) (r .node .0) ⌝ }
-{
-    append(
-        list,
-        t,
-        REM,
-        WORD,
-        left,
-        right,
-        NodeRef(0),
-        0,
-        Name {
-            area: 0,
-            at: 0,
-            len: 0,
-        },
-    )
-}
-
-pub fn new_sll(list: &mut [u64], t: Tally, left: NodeRef, right: NodeRef) -> Made
-    ensures { λ r. ⌜ Gives (now (list .entry)) t (newBin sll (left .0) (right .0)) (now (list .exit)) (r .tally) (r .node .0) ⌝ }
-{
-    append(
-        list,
-        t,
-        SLL,
-        WORD,
-        left,
-        right,
-        NodeRef(0),
-        0,
-        Name {
-            area: 0,
-            at: 0,
-            len: 0,
-        },
-    )
-}
-
-pub fn new_srl(list: &mut [u64], t: Tally, left: NodeRef, right: NodeRef) -> Made
-    ensures { λ r. ⌜ Gives (now (list .entry)) t (newBin srl (left .0) (right .0)) (now (list .exit)) (r .tally) (r .node .0) ⌝ }
-{
-    append(
-        list,
-        t,
-        SRL,
-        WORD,
-        left,
-        right,
-        NodeRef(0),
-        0,
-        Name {
-            area: 0,
-            at: 0,
-            len: 0,
-        },
-    )
-}
-
-pub fn new_ult(list: &mut [u64], t: Tally, left: NodeRef, right: NodeRef) -> Made
-    ensures { λ r. ⌜ Gives (now (list .entry)) t (newBin ult (left .0) (right .0)) (now (list .exit)) (r .tally) (r .node .0) ⌝ }
-{
-    append(
-        list,
-        t,
-        ULT,
-        BIT,
-        left,
-        right,
-        NodeRef(0),
-        0,
-        Name {
-            area: 0,
-            at: 0,
-            len: 0,
-        },
-    )
+    let kind = bin_kind(operator);
+    let sort = bin_sort(operator);
+    plain(list, t, kind, sort, left, right, NodeRef(0))
 }
 
 pub fn new_ext(list: &mut [u64], t: Tally, from: NodeType, value: NodeRef) -> Made
     ensures { λ r. ⌜ Gives (now (list .entry)) t (newExt from (value .0)) (now (list .exit)) (r .tally) (r .node .0) ⌝ }
 {
-    append(
-        list,
-        t,
-        EXT,
-        get_sort(from),
-        value,
-        NodeRef(0),
-        NodeRef(0),
-        0,
-        Name {
-            area: 0,
-            at: 0,
-            len: 0,
-        },
-    )
+    plain(list, t, EXT, get_sort(from), value, NodeRef(0), NodeRef(0))
 }
 
 pub fn new_ite(
@@ -367,121 +230,37 @@ pub fn new_ite(
 ) -> Made
     ensures { λ r. ⌜ Gives (now (list .entry)) t (newIte sort (cond .0) (left .0) (right .0)) (now (list .exit)) (r .tally) (r .node .0) ⌝ }
 {
-    append(
-        list,
-        t,
-        ITE,
-        get_sort(sort),
-        cond,
-        left,
-        right,
-        0,
-        Name {
-            area: 0,
-            at: 0,
-            len: 0,
-        },
-    )
+    plain(list, t, ITE, get_sort(sort), cond, left, right)
 }
 
 pub fn new_eq(list: &mut [u64], t: Tally, left: NodeRef, right: NodeRef) -> Made
     ensures { λ r. ⌜ Gives (now (list .entry)) t (newEq (left .0) (right .0)) (now (list .exit)) (r .tally) (r .node .0) ⌝ }
 {
-    append(
-        list,
-        t,
-        EQ,
-        BIT,
-        left,
-        right,
-        NodeRef(0),
-        0,
-        Name {
-            area: 0,
-            at: 0,
-            len: 0,
-        },
-    )
+    plain(list, t, EQ, BIT, left, right, NodeRef(0))
 }
 
 pub fn new_and_bit(list: &mut [u64], t: Tally, left: NodeRef, right: NodeRef) -> Made
     ensures { λ r. ⌜ Gives (now (list .entry)) t (newAndBit (left .0) (right .0)) (now (list .exit)) (r .tally) (r .node .0) ⌝ }
 {
-    append(
-        list,
-        t,
-        AND,
-        BIT,
-        left,
-        right,
-        NodeRef(0),
-        0,
-        Name {
-            area: 0,
-            at: 0,
-            len: 0,
-        },
-    )
+    plain(list, t, AND, BIT, left, right, NodeRef(0))
 }
 
 pub fn new_and_word(list: &mut [u64], t: Tally, left: NodeRef, right: NodeRef) -> Made
     ensures { λ r. ⌜ Gives (now (list .entry)) t (newAndWord (left .0) (right .0)) (now (list .exit)) (r .tally) (r .node .0) ⌝ }
 {
-    append(
-        list,
-        t,
-        AND,
-        WORD,
-        left,
-        right,
-        NodeRef(0),
-        0,
-        Name {
-            area: 0,
-            at: 0,
-            len: 0,
-        },
-    )
+    plain(list, t, AND, WORD, left, right, NodeRef(0))
 }
 
 pub fn new_not_bit(list: &mut [u64], t: Tally, value: NodeRef) -> Made
     ensures { λ r. ⌜ Gives (now (list .entry)) t (newNotBit (value .0)) (now (list .exit)) (r .tally) (r .node .0) ⌝ }
 {
-    append(
-        list,
-        t,
-        NOT,
-        BIT,
-        value,
-        NodeRef(0),
-        NodeRef(0),
-        0,
-        Name {
-            area: 0,
-            at: 0,
-            len: 0,
-        },
-    )
+    plain(list, t, NOT, BIT, value, NodeRef(0), NodeRef(0))
 }
 
 pub fn new_not_word(list: &mut [u64], t: Tally, value: NodeRef) -> Made
     ensures { λ r. ⌜ Gives (now (list .entry)) t (newNotWord (value .0)) (now (list .exit)) (r .tally) (r .node .0) ⌝ }
 {
-    append(
-        list,
-        t,
-        NOT,
-        WORD,
-        value,
-        NodeRef(0),
-        NodeRef(0),
-        0,
-        Name {
-            area: 0,
-            at: 0,
-            len: 0,
-        },
-    )
+    plain(list, t, NOT, WORD, value, NodeRef(0), NodeRef(0))
 }
 
 pub fn new_bad(list: &mut [u64], t: Tally, cond: NodeRef, name: Name) -> Made

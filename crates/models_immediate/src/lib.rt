@@ -1,27 +1,22 @@
 // Kinds with a constant: Lui, Auipc, the link of Jal and Jalr, and the register-immediate kinds.
 use btor2::NodeRef;
 use btor2::NodeType;
+use builder::Bin;
 use builder::Made;
 use builder::Tally;
-use builder::new_add;
-use builder::new_and_word;
+use builder::new_bin;
 use builder::new_const;
 use builder::new_ext;
-use builder::new_sll;
-use builder::new_srl;
-use builder::new_ult;
+use builder_ops::Operator;
+use builder_ops::apply;
 use builder_ops::check_addition_overflow;
-use builder_ops::new_or;
 use builder_ops::new_sext32;
 use builder_ops::new_sra;
-use builder_ops::new_xor;
 use models::Flows;
 use models::Modeled;
 use models::Operands;
 use models::Outcome;
-ghost use Rattle.btor2.specs.Op.{sll, srl};
-ghost use Rattle.program.specs.OneLine.{newBin, newAndWord};
-ghost use Rattle.builder_ops.specs.Composed.{newOr, newXor, newSra};
+ghost use Rattle.builder_ops.specs.Operator.{operatorOf};
 ghost use Rattle.models.specs.Kinds.{constant, link, withConstant, addend, sumWithConstant, modelAddi, modelAddiw, modelSltiu, modelSlliw, shiftedBack};
 ghost use Rattle.builder.specs.Gives.{Gives};
 ghost use Rattle.models.specs.Code.{operandsOf, flowsOf, modeledOf};
@@ -39,11 +34,10 @@ pub fn constant(list: &mut [u64], t: Tally, f: Flows, imm: u64) -> Modeled
     }
 }
 
-// Nothing where `d`, rd being x0.
-pub fn link(list: &mut [u64], t: Tally, f: Flows, imm: u64, d: bool) -> Modeled
-    ensures { λ r. ⌜ Gives (now (list .entry)) t (link d (flowsOf f) imm) (now (list .exit)) (r .tally) (modeledOf r) ⌝ }
+pub fn link(list: &mut [u64], t: Tally, f: Flows, imm: u64, rd_is_zero: bool) -> Modeled
+    ensures { λ r. ⌜ Gives (now (list .entry)) t (link «rd_is_zero» (flowsOf f) imm) (now (list .exit)) (r .tally) (modeledOf r) ⌝ }
 {
-    if d {
+    if rd_is_zero {
         return Modeled {
             tally: t,
             flows: f,
@@ -53,11 +47,19 @@ pub fn link(list: &mut [u64], t: Tally, f: Flows, imm: u64, d: bool) -> Modeled
     constant(list, t, f, imm)
 }
 
-pub fn model_xori(list: &mut [u64], t: Tally, e: Operands, f: Flows, imm: u64) -> Modeled
-    ensures { λ r. ⌜ Gives (now (list .entry)) t (withConstant newXor (operandsOf e) (flowsOf f) imm) (now (list .exit)) (r .tally) (modeledOf r) ⌝ }
+// Xori, Ori, Andi, Slli, Srli, Srai.
+pub fn with_constant(
+    list: &mut [u64],
+    t: Tally,
+    operator: Operator,
+    e: Operands,
+    f: Flows,
+    imm: u64,
+) -> Modeled
+    ensures { λ r. ⌜ Gives (now (list .entry)) t (withConstant (operatorOf operator) (operandsOf e) (flowsOf f) imm) (now (list .exit)) (r .tally) (modeledOf r) ⌝ }
 {
     let c = new_const(list, t, imm);
-    let x = new_xor(list, c.tally, e.rs1, c.node);
+    let x = apply(list, c.tally, operator, e.rs1, c.node);
     let tally = x.tally;
     let node = x.node;
     Modeled {
@@ -67,69 +69,23 @@ pub fn model_xori(list: &mut [u64], t: Tally, e: Operands, f: Flows, imm: u64) -
     }
 }
 
-pub fn model_ori(list: &mut [u64], t: Tally, e: Operands, f: Flows, imm: u64) -> Modeled
-    ensures { λ r. ⌜ Gives (now (list .entry)) t (withConstant newOr (operandsOf e) (flowsOf f) imm) (now (list .exit)) (r .tally) (modeledOf r) ⌝ }
+// Srliw, Sraiw: by `amount`, which is 32 more than the instruction's.
+pub fn shifted_back(
+    list: &mut [u64],
+    t: Tally,
+    operator: Operator,
+    e: Operands,
+    f: Flows,
+    amount: u64,
+) -> Modeled
+    ensures { λ r. ⌜ Gives (now (list .entry)) t (shiftedBack (operatorOf operator) (operandsOf e) (flowsOf f) amount) (now (list .exit)) (r .tally) (modeledOf r) ⌝ }
 {
-    let c = new_const(list, t, imm);
-    let x = new_or(list, c.tally, e.rs1, c.node);
-    let tally = x.tally;
-    let node = x.node;
-    Modeled {
-        tally: tally,
-        flows: f,
-        outcome: Outcome::Register(node),
-    }
-}
-
-pub fn model_andi(list: &mut [u64], t: Tally, e: Operands, f: Flows, imm: u64) -> Modeled
-    ensures { λ r. ⌜ Gives (now (list .entry)) t (withConstant newAndWord (operandsOf e) (flowsOf f) imm) (now (list .exit)) (r .tally) (modeledOf r) ⌝ }
-{
-    let c = new_const(list, t, imm);
-    let x = new_and_word(list, c.tally, e.rs1, c.node);
-    let tally = x.tally;
-    let node = x.node;
-    Modeled {
-        tally: tally,
-        flows: f,
-        outcome: Outcome::Register(node),
-    }
-}
-
-pub fn model_slli(list: &mut [u64], t: Tally, e: Operands, f: Flows, imm: u64) -> Modeled
-    ensures { λ r. ⌜ Gives (now (list .entry)) t (withConstant (newBin sll) (operandsOf e) (flowsOf f) imm) (now (list .exit)) (r .tally) (modeledOf r) ⌝ }
-{
-    let c = new_const(list, t, imm);
-    let x = new_sll(list, c.tally, e.rs1, c.node);
-    let tally = x.tally;
-    let node = x.node;
-    Modeled {
-        tally: tally,
-        flows: f,
-        outcome: Outcome::Register(node),
-    }
-}
-
-pub fn model_srli(list: &mut [u64], t: Tally, e: Operands, f: Flows, imm: u64) -> Modeled
-    ensures { λ r. ⌜ Gives (now (list .entry)) t (withConstant (newBin srl) (operandsOf e) (flowsOf f) imm) (now (list .exit)) (r .tally) (modeledOf r) ⌝ }
-{
-    let c = new_const(list, t, imm);
-    let x = new_srl(list, c.tally, e.rs1, c.node);
-    let tally = x.tally;
-    let node = x.node;
-    Modeled {
-        tally: tally,
-        flows: f,
-        outcome: Outcome::Register(node),
-    }
-}
-
-pub fn model_srai(list: &mut [u64], t: Tally, e: Operands, f: Flows, imm: u64) -> Modeled
-    ensures { λ r. ⌜ Gives (now (list .entry)) t (withConstant newSra (operandsOf e) (flowsOf f) imm) (now (list .exit)) (r .tally) (modeledOf r) ⌝ }
-{
-    let c = new_const(list, t, imm);
-    let x = new_sra(list, c.tally, e.rs1, c.node);
-    let tally = x.tally;
-    let node = x.node;
+    let c = new_const(list, t, amount);
+    let thirtytwo = new_const(list, c.tally, 32);
+    let x = new_bin(list, thirtytwo.tally, Bin::Sll, e.rs1, thirtytwo.node);
+    let y = apply(list, x.tally, operator, x.node, c.node);
+    let tally = y.tally;
+    let node = y.node;
     Modeled {
         tally: tally,
         flows: f,
@@ -138,15 +94,7 @@ pub fn model_srai(list: &mut [u64], t: Tally, e: Operands, f: Flows, imm: u64) -
 }
 
 // What Addi gives: rs1 where imm is 0, a second constant where rs1 is x0, else the sum.
-pub fn addend(
-    list: &mut [u64],
-    t: Tally,
-    z: bool,
-    s: bool,
-    imm: u64,
-    rs1: NodeRef,
-    c: NodeRef,
-) -> Made
+fn addend(list: &mut [u64], t: Tally, z: bool, s: bool, imm: u64, rs1: NodeRef, c: NodeRef) -> Made
     ensures { λ r. ⌜ Gives (now (list .entry)) t (addend z s imm (rs1 .0) (c .0)) (now (list .exit)) (r .tally) (r .node .0) ⌝ }
 {
     if z {
@@ -158,10 +106,10 @@ pub fn addend(
     if s {
         return new_const(list, t, imm);
     }
-    new_add(list, t, rs1, c)
+    new_bin(list, t, Bin::Add, rs1, c)
 }
 
-pub fn sum_with_constant(
+fn sum_with_constant(
     list: &mut [u64],
     t: Tally,
     e: Operands,
@@ -221,7 +169,7 @@ pub fn model_addiw(list: &mut [u64], t: Tally, e: Operands, f: Flows, imm: u64) 
     ensures { λ r. ⌜ Gives (now (list .entry)) t (modelAddiw (operandsOf e) (flowsOf f) imm) (now (list .exit)) (r .tally) (modeledOf r) ⌝ }
 {
     let c = new_const(list, t, imm);
-    let x = new_add(list, c.tally, e.rs1, c.node);
+    let x = new_bin(list, c.tally, Bin::Add, e.rs1, c.node);
     let y = new_sext32(list, x.tally, x.node);
     let tally = y.tally;
     let node = y.node;
@@ -236,7 +184,7 @@ pub fn model_sltiu(list: &mut [u64], t: Tally, e: Operands, f: Flows, imm: u64) 
     ensures { λ r. ⌜ Gives (now (list .entry)) t (modelSltiu (operandsOf e) (flowsOf f) imm) (now (list .exit)) (r .tally) (modeledOf r) ⌝ }
 {
     let c = new_const(list, t, imm);
-    let x = new_ult(list, c.tally, e.rs1, c.node);
+    let x = new_bin(list, c.tally, Bin::Ult, e.rs1, c.node);
     let y = new_ext(list, x.tally, NodeType::Bit, x.node);
     let tally = y.tally;
     let node = y.node;
@@ -252,40 +200,8 @@ pub fn model_slliw(list: &mut [u64], t: Tally, e: Operands, f: Flows, imm: u64) 
 {
     let c = new_const(list, t, imm);
     let thirtytwo = new_const(list, c.tally, 32);
-    let x = new_sll(list, thirtytwo.tally, e.rs1, c.node);
+    let x = new_bin(list, thirtytwo.tally, Bin::Sll, e.rs1, c.node);
     let y = new_sra(list, x.tally, x.node, thirtytwo.node);
-    let tally = y.tally;
-    let node = y.node;
-    Modeled {
-        tally: tally,
-        flows: f,
-        outcome: Outcome::Register(node),
-    }
-}
-
-pub fn model_srliw(list: &mut [u64], t: Tally, e: Operands, f: Flows, imm: u64) -> Modeled
-    ensures { λ r. ⌜ Gives (now (list .entry)) t (shiftedBack (newBin srl) (operandsOf e) (flowsOf f) imm) (now (list .exit)) (r .tally) (modeledOf r) ⌝ }
-{
-    let c = new_const(list, t, imm);
-    let thirtytwo = new_const(list, c.tally, 32);
-    let x = new_sll(list, thirtytwo.tally, e.rs1, thirtytwo.node);
-    let y = new_srl(list, x.tally, x.node, c.node);
-    let tally = y.tally;
-    let node = y.node;
-    Modeled {
-        tally: tally,
-        flows: f,
-        outcome: Outcome::Register(node),
-    }
-}
-
-pub fn model_sraiw(list: &mut [u64], t: Tally, e: Operands, f: Flows, imm: u64) -> Modeled
-    ensures { λ r. ⌜ Gives (now (list .entry)) t (shiftedBack newSra (operandsOf e) (flowsOf f) imm) (now (list .exit)) (r .tally) (modeledOf r) ⌝ }
-{
-    let c = new_const(list, t, imm);
-    let thirtytwo = new_const(list, c.tally, 32);
-    let x = new_sll(list, thirtytwo.tally, e.rs1, thirtytwo.node);
-    let y = new_sra(list, x.tally, x.node, c.node);
     let tally = y.tally;
     let node = y.node;
     Modeled {

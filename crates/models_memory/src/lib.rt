@@ -1,18 +1,15 @@
 // Loads and stores.
 use btor2::NodeRef;
 use btor2::NodeType;
+use builder::Bin;
 use builder::Made;
 use builder::Tally;
-use builder::new_add;
 use builder::new_and_word;
+use builder::new_bin;
 use builder::new_const;
 use builder::new_ite;
-use builder::new_mul;
 use builder::new_not_word;
 use builder::new_read;
-use builder::new_sll;
-use builder::new_sub;
-use builder::new_ult;
 use builder::new_write;
 use builder_ops::new_or;
 use builder_ops::new_shift_right;
@@ -26,12 +23,12 @@ ghost use Rattle.builder.specs.Gives.{Gives};
 ghost use Rattle.models.specs.Code.{operandsOf, flowsOf, modeledOf, countedOf};
 
 // A read that raises the counter cell, and the maximum where the raised count is above its node.
-pub fn counted_read(list: &mut [u64], t: Tally, e: Operands, f: Flows, address: NodeRef) -> Counted
+fn counted_read(list: &mut [u64], t: Tally, e: Operands, f: Flows, address: NodeRef) -> Counted
     ensures { λ r. ⌜ Gives (now (list .entry)) t (countedRead (operandsOf e) (flowsOf f) (address .0)) (now (list .exit)) (r .tally) (countedOf r) ⌝ }
 {
     let current = new_read(list, t, e.counter, address);
-    let next = new_add(list, current.tally, current.node, e.one);
-    let above = new_ult(list, next.tally, e.maximum, next.node);
+    let next = new_bin(list, current.tally, Bin::Add, current.node, e.one);
+    let above = new_bin(list, next.tally, Bin::Ult, e.maximum, next.node);
     let update = new_ite(
         list,
         above.tally,
@@ -71,7 +68,7 @@ pub fn counted_read(list: &mut [u64], t: Tally, e: Operands, f: Flows, address: 
 }
 
 // The register itself where `z`, imm being 0.
-pub fn model_address(list: &mut [u64], t: Tally, z: bool, imm: u64, rs1: NodeRef) -> Made
+fn model_address(list: &mut [u64], t: Tally, z: bool, imm: u64, rs1: NodeRef) -> Made
     ensures { λ r. ⌜ Gives (now (list .entry)) t (modelAddress z imm (rs1 .0)) (now (list .exit)) (r .tally) (r .node .0) ⌝ }
 {
     if z {
@@ -81,10 +78,10 @@ pub fn model_address(list: &mut [u64], t: Tally, z: bool, imm: u64, rs1: NodeRef
         };
     }
     let c = new_const(list, t, imm);
-    new_add(list, c.tally, rs1, c.node)
+    new_bin(list, c.tally, Bin::Add, rs1, c.node)
 }
 
-pub fn model_l(
+fn model_l(
     list: &mut [u64],
     t: Tally,
     e: Operands,
@@ -109,10 +106,10 @@ pub fn model_l(
     let eight = new_const(list, cell.tally, 8);
     let seven = new_const(list, eight.tally, 7);
     let offset = new_and_word(list, seven.tally, address, seven.node);
-    let amount = new_mul(list, offset.tally, eight.node, offset.node);
+    let amount = new_bin(list, offset.tally, Bin::Mul, eight.node, offset.node);
     let up = new_const(list, amount.tally, spare);
-    let left = new_sub(list, up.tally, up.node, amount.node);
-    let high = new_sll(list, left.tally, cell.node, left.node);
+    let left = new_bin(list, up.tally, Bin::Sub, up.node, amount.node);
+    let high = new_bin(list, left.tally, Bin::Sll, cell.node, left.node);
     let value = new_shift_right(list, high.tally, signed, high.node, up.node);
     let tally = value.tally;
     let its_access = access.node;
@@ -155,7 +152,7 @@ pub fn model_ld(list: &mut [u64], t: Tally, e: Operands, f: Flows, z: bool, imm:
     }
 }
 
-pub fn model_s(
+fn model_s(
     list: &mut [u64],
     t: Tally,
     e: Operands,
@@ -180,10 +177,10 @@ pub fn model_s(
     let eight = new_const(list, bits.tally, 8);
     let seven = new_const(list, eight.tally, 7);
     let offset = new_and_word(list, seven.tally, address, seven.node);
-    let amount = new_mul(list, offset.tally, eight.node, offset.node);
-    let place = new_sll(list, amount.tally, bits.node, amount.node);
+    let amount = new_bin(list, offset.tally, Bin::Mul, eight.node, offset.node);
+    let place = new_bin(list, amount.tally, Bin::Sll, bits.node, amount.node);
     let rest = new_not_word(list, place.tally, place.node);
-    let value = new_sll(list, rest.tally, e.rs2, amount.node);
+    let value = new_bin(list, rest.tally, Bin::Sll, e.rs2, amount.node);
     let new = new_and_word(list, value.tally, value.node, place.node);
     let old = new_and_word(list, new.tally, c.node, rest.node);
     let both = new_or(list, old.tally, new.node, old.node);

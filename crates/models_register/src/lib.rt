@@ -1,40 +1,37 @@
 // Kinds on two registers: logic, shifts, compare, division, branches; and Ecall.
 use btor2::NodeRef;
 use btor2::NodeType;
+use builder::Bin;
 use builder::Tally;
 use builder::new_and_word;
+use builder::new_bin;
 use builder::new_const;
-use builder::new_div;
-use builder::new_divu;
-use builder::new_eq;
 use builder::new_ext;
 use builder::new_ite;
 use builder::new_not_bit;
-use builder::new_rem;
-use builder::new_sll;
-use builder::new_srl;
-use builder::new_ult;
-use builder_ops::new_neq;
-use builder_ops::new_or;
-use builder_ops::new_sgte;
-use builder_ops::new_slt;
-use builder_ops::new_sra;
-use builder_ops::new_ugte;
+use builder_ops::Operator;
+use builder_ops::apply;
 use models::Flows;
 use models::Modeled;
 use models::Operands;
 use models::Outcome;
-ghost use Rattle.btor2.specs.Op.{udiv, sdiv, sll, srl, ult};
-ghost use Rattle.program.specs.OneLine.{newBin, newEq, newAndWord};
-ghost use Rattle.builder_ops.specs.Composed.{newNeq, newUgte, newSlt, newSgte, newOr, newSra};
+ghost use Rattle.builder_ops.specs.Operator.{operatorOf};
+ghost use Rattle.builder.specs.Operator.{binOf};
 ghost use Rattle.models.specs.Kinds.{withRegister, modelSltu, shifted, divided, modelRemu, modelBranch, modelEcall};
 ghost use Rattle.builder.specs.Gives.{Gives};
 ghost use Rattle.models.specs.Code.{operandsOf, flowsOf, modeledOf};
 
-pub fn model_or(list: &mut [u64], t: Tally, e: Operands, f: Flows) -> Modeled
-    ensures { λ r. ⌜ Gives (now (list .entry)) t (withRegister newOr (operandsOf e) (flowsOf f)) (now (list .exit)) (r .tally) (modeledOf r) ⌝ }
+// Or, And.
+pub fn with_register(
+    list: &mut [u64],
+    t: Tally,
+    operator: Operator,
+    e: Operands,
+    f: Flows,
+) -> Modeled
+    ensures { λ r. ⌜ Gives (now (list .entry)) t (withRegister (operatorOf operator) (operandsOf e) (flowsOf f)) (now (list .exit)) (r .tally) (modeledOf r) ⌝ }
 {
-    let x = new_or(list, t, e.rs1, e.rs2);
+    let x = apply(list, t, operator, e.rs1, e.rs2);
     let tally = x.tally;
     let node = x.node;
     Modeled {
@@ -44,23 +41,66 @@ pub fn model_or(list: &mut [u64], t: Tally, e: Operands, f: Flows) -> Modeled
     }
 }
 
-pub fn model_and(list: &mut [u64], t: Tally, e: Operands, f: Flows) -> Modeled
-    ensures { λ r. ⌜ Gives (now (list .entry)) t (withRegister newAndWord (operandsOf e) (flowsOf f)) (now (list .exit)) (r .tally) (modeledOf r) ⌝ }
+// Sll, Srl, Sra: by the low 6 bits of rs2.
+pub fn shifted(list: &mut [u64], t: Tally, operator: Operator, e: Operands, f: Flows) -> Modeled
+    ensures { λ r. ⌜ Gives (now (list .entry)) t (shifted (operatorOf operator) (operandsOf e) (flowsOf f)) (now (list .exit)) (r .tally) (modeledOf r) ⌝ }
 {
-    let x = new_and_word(list, t, e.rs1, e.rs2);
+    let mask = new_const(list, t, 63);
+    let amount = new_and_word(list, mask.tally, e.rs2, mask.node);
+    let x = apply(list, amount.tally, operator, e.rs1, amount.node);
     let tally = x.tally;
     let node = x.node;
     Modeled {
         tally: tally,
         flows: f,
         outcome: Outcome::Register(node),
+    }
+}
+
+// Div, Divu: the division flow takes the divisor.
+pub fn divided(list: &mut [u64], t: Tally, operator: Bin, e: Operands, f: Flows) -> Modeled
+    ensures { λ r. ⌜ Gives (now (list .entry)) t (divided (binOf operator) (operandsOf e) (flowsOf f)) (now (list .exit)) (r .tally) (modeledOf r) ⌝ }
+{
+    let division = new_ite(list, t, NodeType::Word, e.flag, e.rs2, f.division);
+    let x = new_bin(list, division.tally, operator, e.rs1, e.rs2);
+    let tally = x.tally;
+    let its_division = division.node;
+    let node = x.node;
+    let mut g = f;
+    g.division = its_division;
+    Modeled {
+        tally: tally,
+        flows: g,
+        outcome: Outcome::Register(node),
+    }
+}
+
+// The condition, and its negation.
+pub fn model_branch(
+    list: &mut [u64],
+    t: Tally,
+    operator: Operator,
+    e: Operands,
+    f: Flows,
+) -> Modeled
+    ensures { λ r. ⌜ Gives (now (list .entry)) t (modelBranch (operatorOf operator) (operandsOf e) (flowsOf f)) (now (list .exit)) (r .tally) (modeledOf r) ⌝ }
+{
+    let yes = apply(list, t, operator, e.rs1, e.rs2);
+    let no = new_not_bit(list, yes.tally, yes.node);
+    let tally = no.tally;
+    let taken = yes.node;
+    let other = no.node;
+    Modeled {
+        tally: tally,
+        flows: f,
+        outcome: Outcome::Branch(taken, other),
     }
 }
 
 pub fn model_sltu(list: &mut [u64], t: Tally, e: Operands, f: Flows) -> Modeled
     ensures { λ r. ⌜ Gives (now (list .entry)) t (modelSltu (operandsOf e) (flowsOf f)) (now (list .exit)) (r .tally) (modeledOf r) ⌝ }
 {
-    let x = new_ult(list, t, e.rs1, e.rs2);
+    let x = new_bin(list, t, Bin::Ult, e.rs1, e.rs2);
     let y = new_ext(list, x.tally, NodeType::Bit, x.node);
     let tally = y.tally;
     let node = y.node;
@@ -71,90 +111,11 @@ pub fn model_sltu(list: &mut [u64], t: Tally, e: Operands, f: Flows) -> Modeled
     }
 }
 
-pub fn model_sll(list: &mut [u64], t: Tally, e: Operands, f: Flows) -> Modeled
-    ensures { λ r. ⌜ Gives (now (list .entry)) t (shifted (newBin sll) (operandsOf e) (flowsOf f)) (now (list .exit)) (r .tally) (modeledOf r) ⌝ }
-{
-    let mask = new_const(list, t, 63);
-    let amount = new_and_word(list, mask.tally, e.rs2, mask.node);
-    let x = new_sll(list, amount.tally, e.rs1, amount.node);
-    let tally = x.tally;
-    let node = x.node;
-    Modeled {
-        tally: tally,
-        flows: f,
-        outcome: Outcome::Register(node),
-    }
-}
-
-pub fn model_srl(list: &mut [u64], t: Tally, e: Operands, f: Flows) -> Modeled
-    ensures { λ r. ⌜ Gives (now (list .entry)) t (shifted (newBin srl) (operandsOf e) (flowsOf f)) (now (list .exit)) (r .tally) (modeledOf r) ⌝ }
-{
-    let mask = new_const(list, t, 63);
-    let amount = new_and_word(list, mask.tally, e.rs2, mask.node);
-    let x = new_srl(list, amount.tally, e.rs1, amount.node);
-    let tally = x.tally;
-    let node = x.node;
-    Modeled {
-        tally: tally,
-        flows: f,
-        outcome: Outcome::Register(node),
-    }
-}
-
-pub fn model_sra(list: &mut [u64], t: Tally, e: Operands, f: Flows) -> Modeled
-    ensures { λ r. ⌜ Gives (now (list .entry)) t (shifted newSra (operandsOf e) (flowsOf f)) (now (list .exit)) (r .tally) (modeledOf r) ⌝ }
-{
-    let mask = new_const(list, t, 63);
-    let amount = new_and_word(list, mask.tally, e.rs2, mask.node);
-    let x = new_sra(list, amount.tally, e.rs1, amount.node);
-    let tally = x.tally;
-    let node = x.node;
-    Modeled {
-        tally: tally,
-        flows: f,
-        outcome: Outcome::Register(node),
-    }
-}
-
-pub fn model_divu(list: &mut [u64], t: Tally, e: Operands, f: Flows) -> Modeled
-    ensures { λ r. ⌜ Gives (now (list .entry)) t (divided udiv (operandsOf e) (flowsOf f)) (now (list .exit)) (r .tally) (modeledOf r) ⌝ }
-{
-    let division = new_ite(list, t, NodeType::Word, e.flag, e.rs2, f.division);
-    let x = new_divu(list, division.tally, e.rs1, e.rs2);
-    let tally = x.tally;
-    let its_division = division.node;
-    let node = x.node;
-    let mut g = f;
-    g.division = its_division;
-    Modeled {
-        tally: tally,
-        flows: g,
-        outcome: Outcome::Register(node),
-    }
-}
-
-pub fn model_div(list: &mut [u64], t: Tally, e: Operands, f: Flows) -> Modeled
-    ensures { λ r. ⌜ Gives (now (list .entry)) t (divided sdiv (operandsOf e) (flowsOf f)) (now (list .exit)) (r .tally) (modeledOf r) ⌝ }
-{
-    let division = new_ite(list, t, NodeType::Word, e.flag, e.rs2, f.division);
-    let x = new_div(list, division.tally, e.rs1, e.rs2);
-    let tally = x.tally;
-    let its_division = division.node;
-    let node = x.node;
-    let mut g = f;
-    g.division = its_division;
-    Modeled {
-        tally: tally,
-        flows: g,
-        outcome: Outcome::Register(node),
-    }
-}
-
 pub fn model_remu(list: &mut [u64], t: Tally, e: Operands, f: Flows) -> Modeled
     ensures { λ r. ⌜ Gives (now (list .entry)) t (modelRemu (operandsOf e) (flowsOf f)) (now (list .exit)) (r .tally) (modeledOf r) ⌝ }
 {
     let remainder = new_ite(list, t, NodeType::Word, e.flag, e.rs2, f.remainder);
-    let x = new_rem(list, remainder.tally, e.rs1, e.rs2);
+    let x = new_bin(list, remainder.tally, Bin::Rem, e.rs1, e.rs2);
     let tally = x.tally;
     let its_remainder = remainder.node;
     let node = x.node;
@@ -164,96 +125,6 @@ pub fn model_remu(list: &mut [u64], t: Tally, e: Operands, f: Flows) -> Modeled
         tally: tally,
         flows: g,
         outcome: Outcome::Register(node),
-    }
-}
-
-pub fn model_beq(list: &mut [u64], t: Tally, e: Operands, f: Flows) -> Modeled
-    ensures { λ r. ⌜ Gives (now (list .entry)) t (modelBranch newEq (operandsOf e) (flowsOf f)) (now (list .exit)) (r .tally) (modeledOf r) ⌝ }
-{
-    let yes = new_eq(list, t, e.rs1, e.rs2);
-    let no = new_not_bit(list, yes.tally, yes.node);
-    let tally = no.tally;
-    let taken = yes.node;
-    let other = no.node;
-    Modeled {
-        tally: tally,
-        flows: f,
-        outcome: Outcome::Branch(taken, other),
-    }
-}
-
-pub fn model_bne(list: &mut [u64], t: Tally, e: Operands, f: Flows) -> Modeled
-    ensures { λ r. ⌜ Gives (now (list .entry)) t (modelBranch newNeq (operandsOf e) (flowsOf f)) (now (list .exit)) (r .tally) (modeledOf r) ⌝ }
-{
-    let yes = new_neq(list, t, e.rs1, e.rs2);
-    let no = new_not_bit(list, yes.tally, yes.node);
-    let tally = no.tally;
-    let taken = yes.node;
-    let other = no.node;
-    Modeled {
-        tally: tally,
-        flows: f,
-        outcome: Outcome::Branch(taken, other),
-    }
-}
-
-pub fn model_blt(list: &mut [u64], t: Tally, e: Operands, f: Flows) -> Modeled
-    ensures { λ r. ⌜ Gives (now (list .entry)) t (modelBranch newSlt (operandsOf e) (flowsOf f)) (now (list .exit)) (r .tally) (modeledOf r) ⌝ }
-{
-    let yes = new_slt(list, t, e.rs1, e.rs2);
-    let no = new_not_bit(list, yes.tally, yes.node);
-    let tally = no.tally;
-    let taken = yes.node;
-    let other = no.node;
-    Modeled {
-        tally: tally,
-        flows: f,
-        outcome: Outcome::Branch(taken, other),
-    }
-}
-
-pub fn model_bge(list: &mut [u64], t: Tally, e: Operands, f: Flows) -> Modeled
-    ensures { λ r. ⌜ Gives (now (list .entry)) t (modelBranch newSgte (operandsOf e) (flowsOf f)) (now (list .exit)) (r .tally) (modeledOf r) ⌝ }
-{
-    let yes = new_sgte(list, t, e.rs1, e.rs2);
-    let no = new_not_bit(list, yes.tally, yes.node);
-    let tally = no.tally;
-    let taken = yes.node;
-    let other = no.node;
-    Modeled {
-        tally: tally,
-        flows: f,
-        outcome: Outcome::Branch(taken, other),
-    }
-}
-
-pub fn model_bltu(list: &mut [u64], t: Tally, e: Operands, f: Flows) -> Modeled
-    ensures { λ r. ⌜ Gives (now (list .entry)) t (modelBranch (newBin ult) (operandsOf e) (flowsOf f)) (now (list .exit)) (r .tally) (modeledOf r) ⌝ }
-{
-    let yes = new_ult(list, t, e.rs1, e.rs2);
-    let no = new_not_bit(list, yes.tally, yes.node);
-    let tally = no.tally;
-    let taken = yes.node;
-    let other = no.node;
-    Modeled {
-        tally: tally,
-        flows: f,
-        outcome: Outcome::Branch(taken, other),
-    }
-}
-
-pub fn model_bgeu(list: &mut [u64], t: Tally, e: Operands, f: Flows) -> Modeled
-    ensures { λ r. ⌜ Gives (now (list .entry)) t (modelBranch newUgte (operandsOf e) (flowsOf f)) (now (list .exit)) (r .tally) (modeledOf r) ⌝ }
-{
-    let yes = new_ugte(list, t, e.rs1, e.rs2);
-    let no = new_not_bit(list, yes.tally, yes.node);
-    let tally = no.tally;
-    let taken = yes.node;
-    let other = no.node;
-    Modeled {
-        tally: tally,
-        flows: f,
-        outcome: Outcome::Branch(taken, other),
     }
 }
 

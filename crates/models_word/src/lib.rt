@@ -1,13 +1,10 @@
 // Sums and products, and their kinds on 32 bits; Sllw and Divw.
 use btor2::NodeRef;
+use builder::Bin;
 use builder::Tally;
-use builder::new_add;
 use builder::new_and_word;
+use builder::new_bin;
 use builder::new_const;
-use builder::new_div;
-use builder::new_mul;
-use builder::new_sll;
-use builder::new_sub;
 use builder_ops::check_addition_overflow;
 use builder_ops::check_multiplication_overflow;
 use builder_ops::new_sext_by;
@@ -17,15 +14,16 @@ use models::Flows;
 use models::Modeled;
 use models::Operands;
 use models::Outcome;
-ghost use Rattle.btor2.specs.Op.{add, sub};
+ghost use Rattle.builder.specs.Operator.{binOf};
 ghost use Rattle.models.specs.Kinds.{modelSllw, summed, summedWord, modelMul, modelMulw, modelDivw};
 ghost use Rattle.builder.specs.Gives.{Gives};
 ghost use Rattle.models.specs.Code.{operandsOf, flowsOf, modeledOf};
 
-pub fn model_add(list: &mut [u64], t: Tally, e: Operands, f: Flows) -> Modeled
-    ensures { λ r. ⌜ Gives (now (list .entry)) t (summed add (operandsOf e) (flowsOf f)) (now (list .exit)) (r .tally) (modeledOf r) ⌝ }
+// Add, Sub: both use the addition's test.
+pub fn summed(list: &mut [u64], t: Tally, operator: Bin, e: Operands, f: Flows) -> Modeled
+    ensures { λ r. ⌜ Gives (now (list .entry)) t (summed (binOf operator) (operandsOf e) (flowsOf f)) (now (list .exit)) (r .tally) (modeledOf r) ⌝ }
 {
-    let x = new_add(list, t, e.rs1, e.rs2);
+    let x = new_bin(list, t, operator, e.rs1, e.rs2);
     let overflow = check_addition_overflow(list, x.tally, e.flag, f.addition, e.rs1, e.rs2, x.node);
     let tally = overflow.tally;
     let its_addition = overflow.node;
@@ -39,50 +37,24 @@ pub fn model_add(list: &mut [u64], t: Tally, e: Operands, f: Flows) -> Modeled
     }
 }
 
-pub fn model_addw(list: &mut [u64], t: Tally, e: Operands, f: Flows) -> Modeled
-    ensures { λ r. ⌜ Gives (now (list .entry)) t (summedWord add (operandsOf e) (flowsOf f)) (now (list .exit)) (r .tally) (modeledOf r) ⌝ }
+// Addw, Subw.
+pub fn summed_word(list: &mut [u64], t: Tally, operator: Bin, e: Operands, f: Flows) -> Modeled
+    ensures { λ r. ⌜ Gives (now (list .entry)) t (summedWord (binOf operator) (operandsOf e) (flowsOf f)) (now (list .exit)) (r .tally) (modeledOf r) ⌝ }
 {
-    let x = new_add(list, t, e.rs1, e.rs2);
-    let overflow = check_addition_overflow(list, x.tally, e.flag, f.addition, e.rs1, e.rs2, x.node);
-    let y = new_sext32(list, overflow.tally, x.node);
-    let tally = y.tally;
-    let its_addition = overflow.node;
-    let node = y.node;
-    let mut g = f;
-    g.addition = its_addition;
-    Modeled {
-        tally: tally,
-        flows: g,
-        outcome: Outcome::Register(node),
-    }
-}
-
-pub fn model_sub(list: &mut [u64], t: Tally, e: Operands, f: Flows) -> Modeled
-    ensures { λ r. ⌜ Gives (now (list .entry)) t (summed sub (operandsOf e) (flowsOf f)) (now (list .exit)) (r .tally) (modeledOf r) ⌝ }
-{
-    let x = new_sub(list, t, e.rs1, e.rs2);
-    let overflow = check_addition_overflow(list, x.tally, e.flag, f.addition, e.rs1, e.rs2, x.node);
-    let tally = overflow.tally;
+    let sum = new_bin(list, t, operator, e.rs1, e.rs2);
+    let overflow = check_addition_overflow(
+        list,
+        sum.tally,
+        e.flag,
+        f.addition,
+        e.rs1,
+        e.rs2,
+        sum.node,
+    );
+    let x = new_sext32(list, overflow.tally, sum.node);
+    let tally = x.tally;
     let its_addition = overflow.node;
     let node = x.node;
-    let mut g = f;
-    g.addition = its_addition;
-    Modeled {
-        tally: tally,
-        flows: g,
-        outcome: Outcome::Register(node),
-    }
-}
-
-pub fn model_subw(list: &mut [u64], t: Tally, e: Operands, f: Flows) -> Modeled
-    ensures { λ r. ⌜ Gives (now (list .entry)) t (summedWord sub (operandsOf e) (flowsOf f)) (now (list .exit)) (r .tally) (modeledOf r) ⌝ }
-{
-    let x = new_sub(list, t, e.rs1, e.rs2);
-    let overflow = check_addition_overflow(list, x.tally, e.flag, f.addition, e.rs1, e.rs2, x.node);
-    let y = new_sext32(list, overflow.tally, x.node);
-    let tally = y.tally;
-    let its_addition = overflow.node;
-    let node = y.node;
     let mut g = f;
     g.addition = its_addition;
     Modeled {
@@ -98,8 +70,8 @@ pub fn model_sllw(list: &mut [u64], t: Tally, e: Operands, f: Flows) -> Modeled
     let thirtytwo = new_const(list, t, 32);
     let mask = new_const(list, thirtytwo.tally, 31);
     let amount = new_and_word(list, mask.tally, e.rs2, mask.node);
-    let sum = new_add(list, amount.tally, amount.node, thirtytwo.node);
-    let x = new_sll(list, sum.tally, e.rs1, sum.node);
+    let sum = new_bin(list, amount.tally, Bin::Add, amount.node, thirtytwo.node);
+    let x = new_bin(list, sum.tally, Bin::Sll, e.rs1, sum.node);
     let y = new_sra(list, x.tally, x.node, thirtytwo.node);
     let tally = y.tally;
     let node = y.node;
@@ -113,7 +85,7 @@ pub fn model_sllw(list: &mut [u64], t: Tally, e: Operands, f: Flows) -> Modeled
 pub fn model_mul(list: &mut [u64], t: Tally, e: Operands, f: Flows) -> Modeled
     ensures { λ r. ⌜ Gives (now (list .entry)) t (modelMul (operandsOf e) (flowsOf f)) (now (list .exit)) (r .tally) (modeledOf r) ⌝ }
 {
-    let x = new_mul(list, t, e.rs1, e.rs2);
+    let x = new_bin(list, t, Bin::Mul, e.rs1, e.rs2);
     let overflow = check_multiplication_overflow(
         list,
         x.tally,
@@ -142,7 +114,7 @@ pub fn model_mulw(list: &mut [u64], t: Tally, e: Operands, f: Flows) -> Modeled
     let thirtytwo = new_const(list, t, 32);
     let left = new_sext_by(list, thirtytwo.tally, e.rs1, thirtytwo.node);
     let right = new_sext_by(list, left.tally, e.rs2, thirtytwo.node);
-    let product = new_mul(list, right.tally, left.node, right.node);
+    let product = new_bin(list, right.tally, Bin::Mul, left.node, right.node);
     let x = new_sext_by(list, product.tally, product.node, thirtytwo.node);
     let overflow = check_multiplication_overflow(
         list,
@@ -172,7 +144,7 @@ pub fn model_divw(list: &mut [u64], t: Tally, e: Operands, f: Flows) -> Modeled
     let thirtytwo = new_const(list, t, 32);
     let left = new_sext_by(list, thirtytwo.tally, e.rs1, thirtytwo.node);
     let right = new_sext_by(list, left.tally, e.rs2, thirtytwo.node);
-    let x = new_div(list, right.tally, left.node, right.node);
+    let x = new_bin(list, right.tally, Bin::Div, left.node, right.node);
     let tally = x.tally;
     let node = x.node;
     Modeled {

@@ -3,9 +3,11 @@
 use btor2::Name;
 use btor2::NodeRef;
 use btor2::NodeType;
+use builder::Bin;
 use builder::Tally;
 use builder::new_bad;
 use builder::new_ite;
+use builder_ops::Operator;
 use models::Flows;
 use models::Modeled;
 use models::Operands;
@@ -69,7 +71,7 @@ ghost use Rattle.builder.specs.Gives.{Gives};
 
 // The lines of a kind before that of its flow. `imm` is its constant; the tests are: imm is 0, rd is x0, rs1 is x0. What is no other kind
 // is Ecall.
-pub fn model_kind(
+fn model_kind(
     list: &mut [u64],
     t: Tally,
     e: Operands,
@@ -97,39 +99,39 @@ pub fn model_kind(
         SD => models_memory::model_sd(list, t, e, f, z, imm),
         ADDI => models_immediate::model_addi(list, t, e, f, imm, d, z, s),
         SLTIU => models_immediate::model_sltiu(list, t, e, f, imm),
-        XORI => models_immediate::model_xori(list, t, e, f, imm),
-        ORI => models_immediate::model_ori(list, t, e, f, imm),
-        ANDI => models_immediate::model_andi(list, t, e, f, imm),
-        SLLI => models_immediate::model_slli(list, t, e, f, imm),
-        SRLI => models_immediate::model_srli(list, t, e, f, imm),
-        SRAI => models_immediate::model_srai(list, t, e, f, imm),
+        XORI => models_immediate::with_constant(list, t, Operator::Xor, e, f, imm),
+        ORI => models_immediate::with_constant(list, t, Operator::Or, e, f, imm),
+        ANDI => models_immediate::with_constant(list, t, Operator::And, e, f, imm),
+        SLLI => models_immediate::with_constant(list, t, Operator::Sll, e, f, imm),
+        SRLI => models_immediate::with_constant(list, t, Operator::Srl, e, f, imm),
+        SRAI => models_immediate::with_constant(list, t, Operator::Sra, e, f, imm),
         ADDIW => models_immediate::model_addiw(list, t, e, f, imm),
         SLLIW => models_immediate::model_slliw(list, t, e, f, imm),
-        SRLIW => models_immediate::model_srliw(list, t, e, f, imm),
-        SRAIW => models_immediate::model_sraiw(list, t, e, f, imm),
-        ADD => models_word::model_add(list, t, e, f),
-        SUB => models_word::model_sub(list, t, e, f),
-        SLL => models_register::model_sll(list, t, e, f),
+        SRLIW => models_immediate::shifted_back(list, t, Operator::Srl, e, f, imm),
+        SRAIW => models_immediate::shifted_back(list, t, Operator::Sra, e, f, imm),
+        ADD => models_word::summed(list, t, Bin::Add, e, f),
+        SUB => models_word::summed(list, t, Bin::Sub, e, f),
+        SLL => models_register::shifted(list, t, Operator::Sll, e, f),
         SLTU => models_register::model_sltu(list, t, e, f),
-        SRL => models_register::model_srl(list, t, e, f),
-        SRA => models_register::model_sra(list, t, e, f),
-        OR => models_register::model_or(list, t, e, f),
-        AND => models_register::model_and(list, t, e, f),
+        SRL => models_register::shifted(list, t, Operator::Srl, e, f),
+        SRA => models_register::shifted(list, t, Operator::Sra, e, f),
+        OR => models_register::with_register(list, t, Operator::Or, e, f),
+        AND => models_register::with_register(list, t, Operator::And, e, f),
         MUL => models_word::model_mul(list, t, e, f),
-        DIV => models_register::model_div(list, t, e, f),
-        DIVU => models_register::model_divu(list, t, e, f),
+        DIV => models_register::divided(list, t, Bin::Div, e, f),
+        DIVU => models_register::divided(list, t, Bin::Divu, e, f),
         REMU => models_register::model_remu(list, t, e, f),
-        ADDW => models_word::model_addw(list, t, e, f),
+        ADDW => models_word::summed_word(list, t, Bin::Add, e, f),
         DIVW => models_word::model_divw(list, t, e, f),
-        SUBW => models_word::model_subw(list, t, e, f),
+        SUBW => models_word::summed_word(list, t, Bin::Sub, e, f),
         SLLW => models_word::model_sllw(list, t, e, f),
         MULW => models_word::model_mulw(list, t, e, f),
-        BEQ => models_register::model_beq(list, t, e, f),
-        BNE => models_register::model_bne(list, t, e, f),
-        BLT => models_register::model_blt(list, t, e, f),
-        BGE => models_register::model_bge(list, t, e, f),
-        BLTU => models_register::model_bltu(list, t, e, f),
-        BGEU => models_register::model_bgeu(list, t, e, f),
+        BEQ => models_register::model_branch(list, t, Operator::Eq, e, f),
+        BNE => models_register::model_branch(list, t, Operator::Neq, e, f),
+        BLT => models_register::model_branch(list, t, Operator::Slt, e, f),
+        BGE => models_register::model_branch(list, t, Operator::Sgte, e, f),
+        BLTU => models_register::model_branch(list, t, Operator::Ult, e, f),
+        BGEU => models_register::model_branch(list, t, Operator::Ugte, e, f),
         JAL => models_immediate::link(list, t, f, imm, d),
         JALR => models_immediate::link(list, t, f, imm, d),
         _ => models_register::model_ecall(list, t, e, f),
@@ -137,7 +139,7 @@ pub fn model_kind(
 }
 
 // The line of the flow that a model's outcome is for.
-pub fn settle_flow(
+fn settle_flow(
     list: &mut [u64],
     t: Tally,
     flag: NodeRef,

@@ -6,7 +6,7 @@ use Rattle.builder.proofs.new_ite.Tie as tie
 returns : tie.Need-returns
 returns c =
     let a = c .before .before in
-    record { is = rw (a .before .get-sort .ensures) at (a .append .ensures) }
+    record { is = rw (a .before .get-sort .ensures) at (a .plain .ensures) }
 
 pub new-ite-spec : {M : Type 1} → statement M
 new-ite-spec = tie.close (tie.spec (λ c κs. search needs) (λ c κs. search needs) (λ c. search needs) returns)

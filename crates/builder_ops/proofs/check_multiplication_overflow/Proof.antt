@@ -17,9 +17,9 @@ returns c =
     let c2 = c3 .before .before .before .before in
     let c1 = c2 .before .before .before .before in
     on _ (c1 .new-const .ensures) (
-    on _ (c2 .new-srl .ensures) (
-    on _ (c3 .new-srl2 .ensures) (
-    on _ (c4 .new-srl3 .ensures) (
+    on _ (c2 .new-bin .ensures) (
+    on _ (c3 .new-bin2 .ensures) (
+    on _ (c4 .new-bin3 .ensures) (
     on _ (c5 .new-eq .ensures) (
     on _ (c6 .new-neq .ensures) (
     on _ (c7 .new-eq2 .ensures) (

@@ -9,7 +9,7 @@ returns c = rw (c .before .before .before .before .if1 .taken) (c .before .befor
 
 returns-2 : tie.Need-returns-2
 unfolding newShiftRight
-returns-2 c = rw (c .before .before .before .before .if1 .left) (c .before .before .new-srl .ensures)
+returns-2 c = rw (c .before .before .before .before .if1 .left) (c .before .before .new-bin .ensures)
 
 pub new-shift-right-spec : {M : Type 1} → statement M
 new-shift-right-spec = tie.close (tie.spec free (λ c. kept (returns c)) returns free (λ c. kept (returns-2 c)) returns-2)

@@ -12,9 +12,9 @@ returns c =
     let c2 = c3 .before .before .before .before in
     let c1 = c2 .before .before .before .before in
     on _ (c1 .new-const .ensures) (
-    on _ (c2 .new-add .ensures) (
-    on _ (c3 .new-srl .ensures) (
-    on _ (c4 .new-srl2 .ensures) (c5 .new-sub .ensures))))
+    on _ (c2 .new-bin .ensures) (
+    on _ (c3 .new-bin2 .ensures) (
+    on _ (c4 .new-bin3 .ensures) (c5 .new-bin4 .ensures))))
 
 pub new-sra-spec : {M : Type 1} → statement M
 new-sra-spec = tie.close (tie.spec free free free free free (λ c. kept (returns c)) returns)

@@ -13,7 +13,7 @@ returns-2 c = rw (c .before .before .before .before .before .if1 .left, c .befor
 
 returns-3 : tie.Need-returns-3
 unfolding addend
-returns-3 c = rw (c .before .before .before .before .before .if1 .left, c .before .before .before .before .if2 .left) (c .before .before .new-add .ensures)
+returns-3 c = rw (c .before .before .before .before .before .if1 .left, c .before .before .before .before .if2 .left) (c .before .before .new-bin .ensures)
 
 pub addend-spec : {M : Type 1} → statement M
 addend-spec = tie.close (tie.spec returns free (λ c. kept (returns-2 c)) returns-2 free (λ c. kept (returns-3 c)) returns-3)

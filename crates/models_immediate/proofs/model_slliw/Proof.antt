@@ -12,7 +12,7 @@ returns c =
     let c1 = c2 .before .before .before .before in
     on _ (c1 .new-const .ensures) (
     on _ (c2 .new-const2 .ensures) (
-    on _ (c3 .new-sll .ensures) (
+    on _ (c3 .new-bin .ensures) (
     on _ (c4 .new-sra .ensures) stop)))
 
 pub model-slliw-spec : {M : Type 1} → statement M

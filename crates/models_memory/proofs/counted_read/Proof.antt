@@ -15,8 +15,8 @@ returns c =
     let c2 = c3 .before .before .before .before in
     let c1 = c2 .before .before .before .before in
     on _ (c1 .new-read .ensures) (
-    on _ (c2 .new-add .ensures) (
-    on _ (c3 .new-ult .ensures) (
+    on _ (c2 .new-bin .ensures) (
+    on _ (c3 .new-bin2 .ensures) (
     on _ (c4 .new-ite .ensures) (
     on _ (c5 .new-ite2 .ensures) (
     on _ (c6 .new-write .ensures) (

@@ -25,10 +25,10 @@ returns c =
     on _ (c5 .new-const2 .ensures) (
     on _ (c6 .new-const3 .ensures) (
     on _ (c7 .new-and-word2 .ensures) (
-    on _ (c8 .new-mul .ensures) (
+    on _ (c8 .new-bin .ensures) (
     on _ (c9 .new-const4 .ensures) (
-    on _ (c10 .new-sub .ensures) (
-    on _ (c11 .new-sll .ensures) (
+    on _ (c10 .new-bin2 .ensures) (
+    on _ (c11 .new-bin3 .ensures) (
     on _ (c12 .new-shift-right .ensures) stop)))))))))))
 
 pub model-l-spec : {M : Type 1} → statement M

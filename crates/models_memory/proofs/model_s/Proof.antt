@@ -30,10 +30,10 @@ returns c =
     on _ (c6 .new-const3 .ensures) (
     on _ (c7 .new-const4 .ensures) (
     on _ (c8 .new-and-word2 .ensures) (
-    on _ (c9 .new-mul .ensures) (
-    on _ (c10 .new-sll .ensures) (
+    on _ (c9 .new-bin .ensures) (
+    on _ (c10 .new-bin2 .ensures) (
     on _ (c11 .new-not-word .ensures) (
-    on _ (c12 .new-sll2 .ensures) (
+    on _ (c12 .new-bin3 .ensures) (
     on _ (c13 .new-and-word3 .ensures) (
     on _ (c14 .new-and-word4 .ensures) (
     on _ (c15 .new-or .ensures) (

@@ -13,7 +13,7 @@ returns c =
     on _ (c1 .new-const .ensures) (
     on _ (c2 .new-sext-by .ensures) (
     on _ (c3 .new-sext-by2 .ensures) (
-    on _ (c4 .new-div .ensures) stop)))
+    on _ (c4 .new-bin .ensures) stop)))
 
 pub model-divw-spec : {M : Type 1} → statement M
 model-divw-spec = tie.close (tie.spec free free free free (λ c. kept (returns c)) returns)

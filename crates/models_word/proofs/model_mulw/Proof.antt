@@ -15,7 +15,7 @@ returns c =
     on _ (c1 .new-const .ensures) (
     on _ (c2 .new-sext-by .ensures) (
     on _ (c3 .new-sext-by2 .ensures) (
-    on _ (c4 .new-mul .ensures) (
+    on _ (c4 .new-bin .ensures) (
     on _ (c5 .new-sext-by3 .ensures) (
     on _ (c6 .check-multiplication-overflow .ensures) stop)))))
 

@@ -15,8 +15,8 @@ returns c =
     on _ (c1 .new-const .ensures) (
     on _ (c2 .new-const2 .ensures) (
     on _ (c3 .new-and-word .ensures) (
-    on _ (c4 .new-add .ensures) (
-    on _ (c5 .new-sll .ensures) (
+    on _ (c4 .new-bin .ensures) (
+    on _ (c5 .new-bin2 .ensures) (
     on _ (c6 .new-sra .ensures) stop)))))
 
 pub model-sllw-spec : {M : Type 1} → statement M
