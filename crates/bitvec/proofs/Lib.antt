@@ -1,5 +1,6 @@
 pub mod Composed
 pub mod Base
+pub mod Below
 pub mod Logic
 pub mod Shift
 pub mod Sext

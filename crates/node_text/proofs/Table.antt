@@ -5,16 +5,8 @@ use mathlib.Core.Bool.{Bool, true, false, _&&_}
 use mathlib.Core.List.{List, [], _∷_}
 use lib.Dec.{T, eqb, eqb→eq, leb, leb→le}
 use lib.ListN.{length, getD, take, drop, List·getD-eq-default}
-use Rattle.riscv.proofs.Below.{allBelow, at}
+use Rattle.bitvec.proofs.Below.{allBelow, at, left, right}
 use Rattle.node_text.specs.Words.{words, word}
-
-left : (a b : Bool) → T (a && b) → T a
-left true b h = tt
-left false b h = h
-
-right : (a b : Bool) → T (a && b) → T b
-right true b h = h
-right false b h = absurd h
 
 same : List ℕ → List ℕ → Bool
 same [] [] = true

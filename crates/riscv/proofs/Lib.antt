@@ -1,4 +1,3 @@
-pub mod Below
 pub mod First
 pub mod Numbered
 pub mod InOneCell

@@ -10,7 +10,7 @@ use lib.Dec.{T, eqb, eqb→eq}
 use lib.ListN.{List·getD-eq-default}
 use Rattle.bitvec.proofs.Base.{by-le}
 use Rattle.riscv.specs.Kind.{Kind, Lui, Auipc, Lb, Lh, Lw, Ld, Lbu, Lhu, Sb, Sh, Sw, Sd, Addi, Sltiu, Xori, Ori, Andi, Slli, Srli, Srai, Addiw, Slliw, Srliw, Sraiw, Add, Sub, Sll, Sltu, Srl, Sra, Or, And, Mul, Div, Divu, Remu, Addw, Divw, Subw, Sllw, Mulw, Beq, Bne, Blt, Bge, Bltu, Bgeu, Jal, Jalr, Ecall, kinds, kindAt, number}
-use Rattle.riscv.proofs.Below.{allBelow, at}
+use Rattle.bitvec.proofs.Below.{allBelow, at}
 
 same : ℕ → Bool
 same n = eqb (number (kindAt n)) n

@@ -8,7 +8,7 @@ use borrow.Author.Needs.{needs}
 use lib.Dec.{eqb, leb, eqb→eq, leb→le}
 use lib.ListN.{getD}
 use Rattle.riscv.specs.Kind.{kindAt}
-use Rattle.riscv.proofs.Below.{allBelow, at}
+use Rattle.bitvec.proofs.Below.{allBelow, at}
 use Rattle.instruction_class.specs.Class.{plainCount}
 use Rattle.instruction_class.proofs.count_at.Statement.{statement}
 use Rattle.instruction_class.proofs.count_at.Tie as tie

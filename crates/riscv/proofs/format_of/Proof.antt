@@ -11,7 +11,7 @@ use Rattle.riscv.specs.declared.Format.{Format}
 use Rattle.riscv.specs.declared.Format.the-variants.{R, I, S, B, U, J, System}
 use Rattle.riscv.specs.Kind.{kindAt}
 use Rattle.riscv.specs.Format.{format}
-use Rattle.riscv.proofs.Below.{allBelow, at}
+use Rattle.bitvec.proofs.Below.{allBelow, at}
 use Rattle.riscv.proofs.format_of.Statement.{statement}
 use Rattle.riscv.proofs.format_of.Tie as tie
 

@@ -1,6 +1,6 @@
 -- The two tests are the definition's, negated. Assumes nothing.
 use borrow.Author.Tests.{le-leb, lt-leb}
-use Rattle.riscv.proofs.Below.{below-not}
+use Rattle.bitvec.proofs.Below.{below-not}
 use Rattle.riscv.proofs.outside.Statement.{statement}
 use Rattle.riscv.proofs.outside.Tie as tie
 

@@ -9,7 +9,7 @@ use lib.Dec.{eqb, eqb→eq}
 use lib.ListN.{getD}
 use Rattle.riscv.specs.Kind.{Kind, Addi, Jal, Jalr, kindAt, oneOf}
 use Rattle.riscv.specs.Format.{format, writesRd}
-use Rattle.riscv.proofs.Below.{allBelow, at}
+use Rattle.bitvec.proofs.Below.{allBelow, at}
 use Rattle.riscv.proofs.zero_rd.Statement.{statement}
 use Rattle.riscv.proofs.zero_rd.Tie as tie
 
