@@ -1,0 +1,67 @@
+-- Refusal 11 over the lines of the words is that of each record with the lookups from its place. Assumes nothing.
+use Prim.Native.Nat.{ℕ, _*_, _/_, _≤_, _<_}
+use mathlib.Core.Path.{_≡_, refl, sym, _∙_, ap, fun-ext}
+use mathlib.Core.Bool.{Bool, true, false, _||_, true≢false}
+use mathlib.Core.Bool as B
+use mathlib.Core.List.{List}
+use native.Mathlib.Omega.{arith}
+use borrow.Author.Tests.{lt-ltb, le-ltb, ltb-false}
+use lib.ListN.{length, length-map, List·getD-map}
+use Rattle.bitvec.proofs.Base.{by-le}
+use Rattle.btor2.specs.declared.MaybeSort.{MaybeSort}
+use Rattle.btor2.specs.declared.MaybeSort.the-variants.{Sort, NoSort}
+use Rattle.btor2.specs.Op.{Op, unknown, carried}
+use Rattle.btor2_list.specs.Record.{stride, lineAt}
+use Rattle.btor2_list.specs.Node.{Node, node, opOf, nodeOf}
+use Rattle.btor2_list.specs.View.{view}
+use Rattle.btor2_list.specs.Look.{seenAs, lookAt}
+use Rattle.btor2_list.proofs.View.{view-length, view-at}
+use Rattle.list_check.specs.Lines.{ops, opAt, some, pastWords}
+use Rattle.list_check.specs.Formed.{hasValue, earlierValue, opUnformed, lineUnformed, unformed, unformedWords}
+use Rattle.list_check.specs.Inside.{noValue, noValueAt}
+use Rattle.list_check.proofs.Some.{some-same, some-none}
+
+-- what the record at place p says
+abbrev pub said : List ℕ → ℕ → Op ℕ
+said ws p = opOf (lineAt ws (p * stride))
+
+-- the test of the record at place p
+abbrev pub recordUnformed : ℕ → ℕ → List ℕ → ℕ → Bool
+recordUnformed host ours ws p = opUnformed host ours (noValueAt ws p) (said ws p)
+
+pub op-at : (ws : List ℕ) (n p : ℕ) → p < n → opAt (ops (view ws n)) p ≡ said ws p
+op-at ws n p h = List·getD-map (λ (x : Node). x .op) (view ws n) p (node 0 unknown) ∙ ap (λ (x : Node). x .op) (view-at ws n (node 0 unknown) p h)
+
+pub ops-length : (ws : List ℕ) (n : ℕ) → length (ops (view ws n)) ≡ n
+ops-length ws n = length-map (view ws n) (λ (x : Node). x .op) ∙ view-length ws n
+
+neither : (a b : Bool) → (a || b) ≡ false → (a ≡ false) × (b ≡ false)
+neither true b e = absurd (true≢false e)
+neither false b e = (refl, e)
+
+seen-value : (nid : ℕ) (m : MaybeSort) → noValue (seenAs nid m) ≡ B.not (hasValue m)
+seen-value nid (Sort s) = refl
+seen-value nid NoSort = refl
+
+module _ (ws : List ℕ) (n : ℕ) (room : n ≤ length ws / stride) where
+  -- the lookup from line p is the test of the definition
+  pub looked : (p : ℕ) → p < n → (q : ℕ) → B.not (earlierValue (ops (view ws n)) p q) ≡ noValueAt ws p q
+  looked p h q =
+      by-le p q
+      (λ l. rw (le-ltb q p l))
+      (λ l. let there : q < length ws / stride = omega arith in rw (lt-ltb q p l, lt-ltb _ _ there, op-at ws n q (omega arith)) (sym (seen-value (lineAt ws (q * stride) .nid .0) (carried (said ws q)))))
+
+  pub by-records : (host ours : ℕ) → unformed host ours (ops (view ws n)) ≡ some n (recordUnformed host ours ws)
+  unfolding unformed
+  by-records host ours =
+      rw (ops-length ws n)
+      (some-same n (lineUnformed host ours (ops (view ws n))) (recordUnformed host ours ws)
+      (λ p h. rw (op-at ws n p h) (ap (λ (out : ℕ → Bool). opUnformed host ours out (said ws p)) (fun-ext (looked p h)))))
+
+-- where the check finds nothing, the words hold the lines, and each line passes its tests
+pub when-formed : (ws : List ℕ) (n host ours : ℕ) → unformedWords ws n host ours ≡ false
+    → (n ≤ length ws / stride) × ((p : ℕ) → p < n → lineUnformed host ours (ops (view ws n)) p ≡ false)
+unfolding unformed
+when-formed ws n host ours e =
+    let both = neither (pastWords ws n) (unformed host ours (ops (view ws n))) e in
+    (ltb-false (length ws / stride) n (both .0), λ p h. some-none (length (ops (view ws n))) (lineUnformed host ours (ops (view ws n))) (both .1) p (rw (ops-length ws n) h))

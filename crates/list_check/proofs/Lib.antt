@@ -1,0 +1,3 @@
+pub mod Some
+pub mod Found
+pub mod Formed

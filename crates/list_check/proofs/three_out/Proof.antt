@@ -1,0 +1,13 @@
+-- One operand after the others. Assumes nothing.
+use borrow.Author.Needs.{needs}
+use Rattle.list_check.proofs.three_out.Statement.{statement}
+use Rattle.list_check.proofs.three_out.Tie as tie
+
+returns : tie.Need-returns
+returns c = rw (← c .before .no-value .ensures, c .if1 .taken)
+
+returns-2 : tie.Need-returns-2
+returns-2 c = rw (← c .before .before .no-value .ensures, c .before .if1 .left) (c .two-out .ensures)
+
+pub three-out-spec : {M : Type 1} → statement M
+three-out-spec = tie.close (tie.spec (λ c κs. search needs) returns (λ c κs. search needs) returns-2)

@@ -1,0 +1,4 @@
+pub mod Lines
+pub mod Operator
+pub mod Formed
+pub mod Inside

@@ -1,0 +1,30 @@
+-- The lines of a list, and tests over them.
+use Prim.Native.Nat.{ℕ, zero, suc, _/_}
+use mathlib.Core.Bool.{Bool, false, _||_}
+use mathlib.Core.List.{List, [], _∷_, map}
+use lib.Dec.{ltb}
+use lib.ListN.{length, getD}
+use Rattle.btor2.specs.Op.{Op, unknown}
+use Rattle.btor2_list.specs.Record.{stride}
+use Rattle.btor2_list.specs.Node.{Node}
+
+-- what the lines say, without their identifiers
+abbrev pub ops : List Node → List (Op ℕ)
+ops xs = map (λ (x : Node). x .op) xs
+
+abbrev pub opAt : List (Op ℕ) → ℕ → Op ℕ
+opAt xs p = getD xs p unknown
+
+-- some place below n passes a test
+unfoldable pub some : ℕ → (ℕ → Bool) → Bool
+some zero test = false
+some (suc n) test = some n test || test n
+
+-- some entry of a list passes a test
+abbrev pub any : (ℕ → Bool) → List ℕ → Bool
+any test [] = false
+any test (q ∷ qs) = test q || any test qs
+
+-- the words do not hold n lines
+abbrev pub pastWords : List ℕ → ℕ → Bool
+pastWords ws n = ltb (length ws / stride) n

@@ -1,0 +1,284 @@
+// What a record says, and the checks over a whole list of lines.
+use btor2::MaybeSort;
+use btor2::Name;
+use btor2::NodeRef;
+use btor2::NodeType;
+use btor2::get_sort;
+use btor2::sort_of;
+use btor2_list::ADD;
+use btor2_list::AND;
+use btor2_list::BAD;
+use btor2_list::CONST;
+use btor2_list::DIV;
+use btor2_list::DIVU;
+use btor2_list::EQ;
+use btor2_list::EXT;
+use btor2_list::Found;
+use btor2_list::INPUT;
+use btor2_list::ITE;
+use btor2_list::Line;
+use btor2_list::Looked;
+use btor2_list::MUL;
+use btor2_list::NEXT;
+use btor2_list::NOT;
+use btor2_list::OR;
+use btor2_list::READ;
+use btor2_list::REM;
+use btor2_list::SLL;
+use btor2_list::SRL;
+use btor2_list::STATE;
+use btor2_list::STRIDE;
+use btor2_list::SUB;
+use btor2_list::ULT;
+use btor2_list::WRITE;
+use btor2_list::get;
+use btor2_list::look;
+use btor2_name::HOST;
+use btor2_name::OURS;
+ghost use mathlib.Core.Path.{_≡_};
+ghost use mathlib.Core.Bool.{cond, true, _||_};
+ghost use lib.Dec.{eqb, ltb};
+ghost use mathlib.Core.List.{[], _∷_};
+ghost use Prim.Native.Nat.{_+_, _*_};
+ghost use Rattle.btor2.specs.declared.NodeType.the-variants.{Memory};
+ghost use Rattle.btor2.specs.Op.{state as stateOp, stateInit};
+ghost use Rattle.btor2.specs.Sort.{sameSort};
+ghost use Rattle.btor2_list.specs.Record.{stride, holds, lineAt};
+ghost use Rattle.btor2_list.specs.Node.{opOf};
+ghost use Rattle.list_check.specs.Operator.{opFrom};
+ghost use Rattle.list_check.specs.Lines.{any};
+ghost use Rattle.list_check.specs.Formed.{nameOutside, opUnformed, unformedWords};
+ghost use Rattle.list_check.specs.Inside.{noValueAt};
+
+// The operators on two words.
+pub enum Bin {
+    Add,
+    Sub,
+    Mul,
+    Divu,
+    Div,
+    Rem,
+    Sll,
+    Srl,
+    Ult,
+}
+
+// What a record says, with the fields that its kind uses: one of unicorn's `Node`, a State with an init apart, or a record of no known kind
+// or sort.
+pub enum Operator {
+    Const(NodeType, u64),
+    Read(NodeRef, NodeRef),
+    Write(NodeRef, NodeRef, NodeRef),
+    Binary(Bin, NodeRef, NodeRef),
+    Ext(NodeType, NodeRef),
+    Ite(NodeType, NodeRef, NodeRef, NodeRef),
+    Eq(NodeRef, NodeRef),
+    And(NodeType, NodeRef, NodeRef),
+    Or(NodeType, NodeRef, NodeRef),
+    Not(NodeType, NodeRef),
+    State(NodeType, Name),
+    StateInit(NodeType, NodeRef, Name),
+    Next(NodeType, NodeRef, NodeRef),
+    Input(NodeType, Name),
+    Bad(NodeRef, Name),
+    Unknown,
+}
+
+// What a record says.
+pub fn operator_of(line: Line) -> Operator
+    ensures { λ r. ⌜ opFrom r ≡ opOf line ⌝ }
+{
+    let a = line.op1;
+    let b = line.op2;
+    let c = line.op3;
+    let name = line.name;
+    let kind = line.kind;
+    let sort = sort_of(line.sort);
+    match kind {
+        CONST => match sort {
+            MaybeSort::Sort(s) => Operator::Const(s, line.imm),
+            MaybeSort::NoSort => Operator::Unknown,
+        },
+        READ => Operator::Read(a, b),
+        WRITE => Operator::Write(a, b, c),
+        ADD => Operator::Binary(Bin::Add, a, b),
+        SUB => Operator::Binary(Bin::Sub, a, b),
+        MUL => Operator::Binary(Bin::Mul, a, b),
+        DIVU => Operator::Binary(Bin::Divu, a, b),
+        DIV => Operator::Binary(Bin::Div, a, b),
+        REM => Operator::Binary(Bin::Rem, a, b),
+        SLL => Operator::Binary(Bin::Sll, a, b),
+        SRL => Operator::Binary(Bin::Srl, a, b),
+        ULT => Operator::Binary(Bin::Ult, a, b),
+        EXT => match sort {
+            MaybeSort::Sort(s) => Operator::Ext(s, a),
+            MaybeSort::NoSort => Operator::Unknown,
+        },
+        ITE => match sort {
+            MaybeSort::Sort(s) => Operator::Ite(s, a, b, c),
+            MaybeSort::NoSort => Operator::Unknown,
+        },
+        EQ => Operator::Eq(a, b),
+        AND => match sort {
+            MaybeSort::Sort(s) => Operator::And(s, a, b),
+            MaybeSort::NoSort => Operator::Unknown,
+        },
+        OR => match sort {
+            MaybeSort::Sort(s) => Operator::Or(s, a, b),
+            MaybeSort::NoSort => Operator::Unknown,
+        },
+        NOT => match sort {
+            MaybeSort::Sort(s) => Operator::Not(s, a),
+            MaybeSort::NoSort => Operator::Unknown,
+        },
+        STATE => match sort {
+            MaybeSort::Sort(s) => state(s, line.imm, a, name),
+            MaybeSort::NoSort => Operator::Unknown,
+        },
+        NEXT => match sort {
+            MaybeSort::Sort(s) => Operator::Next(s, a, b),
+            MaybeSort::NoSort => Operator::Unknown,
+        },
+        INPUT => match sort {
+            MaybeSort::Sort(s) => Operator::Input(s, name),
+            MaybeSort::NoSort => Operator::Unknown,
+        },
+        BAD => Operator::Bad(a, name),
+        _ => Operator::Unknown,
+    }
+}
+
+// A State, with an init where the constant is not 0.
+fn state(s: NodeType, imm: u64, init: NodeRef, name: Name) -> Operator
+    ensures { λ r. ⌜ opFrom r ≡ cond (eqb imm 0) (stateOp s name) (stateInit s (init .0) name) ⌝ }
+{
+    if imm == 0 {
+        return Operator::State(s, name);
+    }
+    Operator::StateInit(s, init, name)
+}
+
+// 11: some line has an unknown kind or sort, extends a Memory, names an operand that is no earlier value line, or has a name outside its
+// area. `host` and `ours` are the lengths of the two areas. True where the words do not hold as many lines.
+pub fn unformed(list: &[u64], lines: usize, host: usize, ours: usize) -> bool
+    ensures { λ r. ⌜ r ≡ unformedWords (now (list .entry)) lines host ours ⌝ }
+{
+    if list.len() / STRIDE < lines {
+        return true;
+    }
+    let mut i = 0;
+    while i < lines {
+        if line_unformed(list, i, host, ours) {
+            return true;
+        }
+        i += 1;
+    }
+    false
+}
+
+fn line_unformed(list: &[u64], i: usize, host: usize, ours: usize) -> bool
+    ensures { λ r. ⌜ r ≡ cond (holds (now (list .entry)) i) (opUnformed host ours (noValueAt (now (list .entry)) i) (opOf (lineAt (now (list .entry)) (i * stride)))) true ⌝ }
+{
+    match get(list, NodeRef(i)) {
+        Found::Line(line) => operator_unformed(list, i, host, ours, operator_of(line)),
+        Found::Outside => true,
+    }
+}
+
+fn operator_unformed(list: &[u64], i: usize, host: usize, ours: usize, o: Operator) -> bool
+    ensures { λ r. ⌜ r ≡ opUnformed host ours (noValueAt (now (list .entry)) i) (opFrom o) ⌝ }
+{
+    match o {
+        Operator::Const(_, _) => false,
+        Operator::Read(m, a) => two_out(list, i, m, a),
+        Operator::Write(m, a, v) => three_out(list, i, m, a, v),
+        Operator::Binary(_, a, b) => two_out(list, i, a, b),
+        Operator::Ext(s, a) => extended_out(list, i, s, a),
+        Operator::Ite(_, c, a, b) => three_out(list, i, c, a, b),
+        Operator::Eq(a, b) => two_out(list, i, a, b),
+        Operator::And(_, a, b) => two_out(list, i, a, b),
+        Operator::Or(_, a, b) => two_out(list, i, a, b),
+        Operator::Not(_, a) => no_value(list, i, a),
+        Operator::State(_, name) => name_outside(host, ours, name),
+        Operator::StateInit(_, a, name) => named_out(list, i, host, ours, name, a),
+        Operator::Next(_, a, b) => two_out(list, i, a, b),
+        Operator::Input(_, name) => name_outside(host, ours, name),
+        Operator::Bad(a, name) => named_out(list, i, host, ours, name, a),
+        Operator::Unknown => true,
+    }
+}
+
+// The place is not that of a value line before line i.
+fn no_value(list: &[u64], i: usize, place: NodeRef) -> bool
+    ensures { λ r. ⌜ r ≡ noValueAt (now (list .entry)) i (place .0) ⌝ }
+{
+    match look(list, i, place) {
+        Looked::Value(_, _) => false,
+        Looked::NoValue(_) => true,
+        Looked::Outside => true,
+    }
+}
+
+fn two_out(list: &[u64], i: usize, a: NodeRef, b: NodeRef) -> bool
+    ensures { λ r. ⌜ r ≡ any (noValueAt (now (list .entry)) i) (a .0 ∷ b .0 ∷ []) ⌝ }
+{
+    if no_value(list, i, a) {
+        return true;
+    }
+    no_value(list, i, b)
+}
+
+fn three_out(list: &[u64], i: usize, a: NodeRef, b: NodeRef, c: NodeRef) -> bool
+    ensures { λ r. ⌜ r ≡ any (noValueAt (now (list .entry)) i) (a .0 ∷ b .0 ∷ c .0 ∷ []) ⌝ }
+{
+    if no_value(list, i, a) {
+        return true;
+    }
+    two_out(list, i, b, c)
+}
+
+fn extended_out(list: &[u64], i: usize, from: NodeType, a: NodeRef) -> bool
+    ensures { λ r. ⌜ r ≡ (sameSort from Memory || any (noValueAt (now (list .entry)) i) (a .0 ∷ [])) ⌝ }
+{
+    if get_sort(from) == get_sort(NodeType::Memory) {
+        return true;
+    }
+    no_value(list, i, a)
+}
+
+fn named_out(list: &[u64], i: usize, host: usize, ours: usize, name: Name, a: NodeRef) -> bool
+    ensures { λ r. ⌜ r ≡ (nameOutside host ours name || any (noValueAt (now (list .entry)) i) (a .0 ∷ [])) ⌝ }
+{
+    if name_outside(host, ours, name) {
+        return true;
+    }
+    no_value(list, i, a)
+}
+
+// A name that is not missing has all its bytes in its area. A mark that is none of the two areas' and not 0 is outside.
+fn name_outside(host: usize, ours: usize, name: Name) -> bool
+    ensures { λ r. ⌜ r ≡ nameOutside host ours name ⌝ }
+{
+    let area = name.area;
+    if area == 0 {
+        return false;
+    }
+    if area == HOST {
+        return past(host, name.at, name.len);
+    }
+    if area == OURS {
+        return past(ours, name.at, name.len);
+    }
+    true
+}
+
+// `len` bytes from `at` on reach past the end of an area.
+fn past(area: usize, at: u64, len: u64) -> bool
+    ensures { λ r. ⌜ r ≡ ltb area (at + len) ⌝ }
+{
+    let end = area as u64;
+    if end < at {
+        return true;
+    }
+    end - at < len
+}
