@@ -1,12 +1,12 @@
 -- The table of words that the code has, entry by entry. Assumes nothing.
 use Prim.Native.Nat.{ℕ, _*_, _≤_, _<_}
-use mathlib.Core.Path.{_≡_, refl}
+use mathlib.Core.Path.{_≡_, refl, ap}
 use mathlib.Core.Bool.{Bool, true, false, _&&_}
 use mathlib.Core.List.{List, [], _∷_}
 use lib.Dec.{T, eqb, eqb→eq, leb, leb→le}
 use lib.ListN.{length, getD, take, drop, List·getD-eq-default}
-use Rattle.bitvec.proofs.Below.{allBelow, at, left, right}
-use Rattle.node_text.specs.Words.{words, word}
+use Rattle.bitvec.proofs.Below.{at, left, right}
+use Rattle.node_text.specs.Words.{ascii, words, word}
 
 same : List ℕ → List ℕ → Bool
 same [] [] = true
@@ -23,10 +23,10 @@ same→eq (x ∷ xs) (y ∷ ys) t = let e = eqb→eq x y (left (eqb x y) (same x
 
 -- the words as they are stored, each padded to six bytes, and their lengths
 abbrev pub letters : List ℕ
-letters = 99 ∷ 111 ∷ 110 ∷ 115 ∷ 116 ∷ 100 ∷ 114 ∷ 101 ∷ 97 ∷ 100 ∷ 32 ∷ 32 ∷ 119 ∷ 114 ∷ 105 ∷ 116 ∷ 101 ∷ 32 ∷ 97 ∷ 100 ∷ 100 ∷ 32 ∷ 32 ∷ 32 ∷ 115 ∷ 117 ∷ 98 ∷ 32 ∷ 32 ∷ 32 ∷ 109 ∷ 117 ∷ 108 ∷ 32 ∷ 32 ∷ 32 ∷ 117 ∷ 100 ∷ 105 ∷ 118 ∷ 32 ∷ 32 ∷ 115 ∷ 100 ∷ 105 ∷ 118 ∷ 32 ∷ 32 ∷ 117 ∷ 114 ∷ 101 ∷ 109 ∷ 32 ∷ 32 ∷ 115 ∷ 108 ∷ 108 ∷ 32 ∷ 32 ∷ 32 ∷ 115 ∷ 114 ∷ 108 ∷ 32 ∷ 32 ∷ 32 ∷ 117 ∷ 108 ∷ 116 ∷ 32 ∷ 32 ∷ 32 ∷ 117 ∷ 101 ∷ 120 ∷ 116 ∷ 32 ∷ 32 ∷ 105 ∷ 116 ∷ 101 ∷ 32 ∷ 32 ∷ 32 ∷ 101 ∷ 113 ∷ 32 ∷ 32 ∷ 32 ∷ 32 ∷ 97 ∷ 110 ∷ 100 ∷ 32 ∷ 32 ∷ 32 ∷ 111 ∷ 114 ∷ 32 ∷ 32 ∷ 32 ∷ 32 ∷ 110 ∷ 111 ∷ 116 ∷ 32 ∷ 32 ∷ 32 ∷ 115 ∷ 116 ∷ 97 ∷ 116 ∷ 101 ∷ 32 ∷ 105 ∷ 110 ∷ 105 ∷ 116 ∷ 32 ∷ 32 ∷ 110 ∷ 101 ∷ 120 ∷ 116 ∷ 32 ∷ 32 ∷ 105 ∷ 110 ∷ 112 ∷ 117 ∷ 116 ∷ 32 ∷ 98 ∷ 97 ∷ 100 ∷ 32 ∷ 32 ∷ 32 ∷ []
+letters = 105 ∷ 110 ∷ 105 ∷ 116 ∷ 32 ∷ 32 ∷ 99 ∷ 111 ∷ 110 ∷ 115 ∷ 116 ∷ 100 ∷ 114 ∷ 101 ∷ 97 ∷ 100 ∷ 32 ∷ 32 ∷ 119 ∷ 114 ∷ 105 ∷ 116 ∷ 101 ∷ 32 ∷ 97 ∷ 100 ∷ 100 ∷ 32 ∷ 32 ∷ 32 ∷ 115 ∷ 117 ∷ 98 ∷ 32 ∷ 32 ∷ 32 ∷ 109 ∷ 117 ∷ 108 ∷ 32 ∷ 32 ∷ 32 ∷ 117 ∷ 100 ∷ 105 ∷ 118 ∷ 32 ∷ 32 ∷ 115 ∷ 100 ∷ 105 ∷ 118 ∷ 32 ∷ 32 ∷ 117 ∷ 114 ∷ 101 ∷ 109 ∷ 32 ∷ 32 ∷ 115 ∷ 108 ∷ 108 ∷ 32 ∷ 32 ∷ 32 ∷ 115 ∷ 114 ∷ 108 ∷ 32 ∷ 32 ∷ 32 ∷ 117 ∷ 108 ∷ 116 ∷ 32 ∷ 32 ∷ 32 ∷ 117 ∷ 101 ∷ 120 ∷ 116 ∷ 32 ∷ 32 ∷ 105 ∷ 116 ∷ 101 ∷ 32 ∷ 32 ∷ 32 ∷ 101 ∷ 113 ∷ 32 ∷ 32 ∷ 32 ∷ 32 ∷ 97 ∷ 110 ∷ 100 ∷ 32 ∷ 32 ∷ 32 ∷ 111 ∷ 114 ∷ 32 ∷ 32 ∷ 32 ∷ 32 ∷ 110 ∷ 111 ∷ 116 ∷ 32 ∷ 32 ∷ 32 ∷ 115 ∷ 116 ∷ 97 ∷ 116 ∷ 101 ∷ 32 ∷ 110 ∷ 101 ∷ 120 ∷ 116 ∷ 32 ∷ 32 ∷ 105 ∷ 110 ∷ 112 ∷ 117 ∷ 116 ∷ 32 ∷ 98 ∷ 97 ∷ 100 ∷ 32 ∷ 32 ∷ 32 ∷ []
 
 abbrev pub lens : List ℕ
-lens = 6 ∷ 4 ∷ 5 ∷ 3 ∷ 3 ∷ 3 ∷ 4 ∷ 4 ∷ 4 ∷ 3 ∷ 3 ∷ 3 ∷ 4 ∷ 3 ∷ 2 ∷ 3 ∷ 2 ∷ 3 ∷ 5 ∷ 4 ∷ 4 ∷ 5 ∷ 3 ∷ []
+lens = 4 ∷ 6 ∷ 4 ∷ 5 ∷ 3 ∷ 3 ∷ 3 ∷ 4 ∷ 4 ∷ 4 ∷ 3 ∷ 3 ∷ 3 ∷ 4 ∷ 3 ∷ 2 ∷ 3 ∷ 2 ∷ 3 ∷ 5 ∷ 4 ∷ 5 ∷ 3 ∷ []
 
 test : ℕ → Bool
 test k = same (take (length (word k)) (drop (6 * k) letters)) (word k)
@@ -50,4 +50,4 @@ unfolding most-test
 len-most k h = leb→le (getD lens k 0) 6 (at 23 most-test tt k h)
 
 pub past : (k : ℕ) → 23 ≤ k → word k ≡ []
-past k h = List·getD-eq-default words [] h
+past k h = ap ascii (List·getD-eq-default words "" h)

@@ -1,8 +1,8 @@
--- The text of a row.
+-- The text of a row: `writeln!` of an identifier, a word, numbers and a name, with a space before each but the first.
 use Prim.Native.Nat.{ℕ}
 use mathlib.Core.Bool.{Bool, true, false}
 use mathlib.Core.List.{List, [], _∷_, _++_}
-use lib.Dec.{ltb}
+use lib.ListN.{take}
 use Rattle.text.specs.Numeral.{decimalText}
 use Rattle.node_text.specs.declared.Row.{Row}
 use Rattle.node_text.specs.Words.{word}
@@ -13,6 +13,7 @@ space = 32 ∷ []
 abbrev newline : List ℕ
 newline = 10 ∷ []
 
+-- a number, or a name, where there is one
 abbrev pub fieldText : Bool → ℕ → List ℕ
 fieldText true x = space ++ decimalText x
 fieldText false x = []
@@ -21,8 +22,13 @@ abbrev pub nameText : Bool → List ℕ → List ℕ
 nameText true name = space ++ name
 nameText false name = []
 
--- the identifier, the word, the first n numbers and the name where there is one, each behind a space
-unfoldable pub rowText : Row → List ℕ → List ℕ
-rowText r name =
-    decimalText (r .nid) ++ space ++ word (r .word) ++ fieldText (ltb 0 (r .n)) (r .a) ++ fieldText (ltb 1 (r .n)) (r .b)
-    ++ fieldText (ltb 2 (r .n)) (r .c) ++ fieldText (ltb 3 (r .n)) (r .d) ++ nameText (r .named) name ++ newline
+abbrev pub numbersText : List ℕ → List ℕ
+numbersText [] = []
+numbersText (x ∷ xs) = fieldText true x ++ numbersText xs
+
+unfoldable pub written : ℕ → List ℕ → List ℕ → Bool → List ℕ → List ℕ
+written nid word numbers named name = decimalText nid ++ space ++ word ++ numbersText numbers ++ nameText named name ++ newline
+
+-- the first n of four numbers
+abbrev pub rowText : Row → List ℕ → List ℕ
+rowText r name = written (r .nid) (word (r .word)) (take (r .n) (r .a ∷ r .b ∷ r .c ∷ r .d ∷ [])) (r .named) name

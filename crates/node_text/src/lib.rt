@@ -1,4 +1,4 @@
-// Node lines as text: a row is an identifier, a word, some numbers and a name.
+// Rows of node lines as text: a row is an identifier, a word, some numbers and a name.
 ghost use mathlib.Core.Path.{_≡_};
 ghost use Prim.Native.Nat.{_+_, _<_, _≤_};
 ghost use lib.ListN.{length, take, drop};
@@ -17,7 +17,7 @@ fn word_len(k: usize) -> usize
     ensures most { λ r. ⌜ r ≤ 6 ⌝ }
 {
     let lens =
-        b"\x06\x04\x05\x03\x03\x03\x04\x04\x04\x03\x03\x03\x04\x03\x02\x03\x02\x03\x05\x04\x04\x05\x03";
+        b"\x04\x06\x04\x05\x03\x03\x03\x04\x04\x04\x03\x03\x03\x04\x03\x02\x03\x02\x03\x05\x04\x05\x03";
     let n = lens[k];
     n as usize
 }
@@ -30,7 +30,7 @@ pub fn put_word(out: &mut [u8], at: usize, k: usize) -> usize
         return at;
     }
     let letters =
-        b"constdread  write add   sub   mul   udiv  sdiv  urem  sll   srl   ult   uext  ite   eq    and   or    not   state init  next  input bad   ";
+        b"init  constdread  write add   sub   mul   udiv  sdiv  urem  sll   srl   ult   uext  ite   eq    and   or    not   state next  input bad   ";
     let n = word_len(k);
     put_part(out, at, letters, PADDED * k, n)
 }

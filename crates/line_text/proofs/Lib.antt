@@ -1,0 +1,6 @@
+pub mod Tests
+pub mod Each
+pub mod Shape
+pub mod KnownKinds
+pub mod Listed
+pub mod Runs

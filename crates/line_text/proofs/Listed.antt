@@ -1,0 +1,78 @@
+-- The lines of a list, as far as the words reach, by the tests of a lookup. Assumes nothing.
+use Prim.Native.Nat.{ℕ, _*_, _/_, min, _≤_, _<_}
+use mathlib.Core.Path.{_≡_, refl, sym, ap, _∙_}
+use mathlib.Core.List.{List}
+use native.Mathlib.Decide.{decLe}
+use native.Mathlib.Omega.{arith}
+use lib.ListN.{length, List·getD-eq-default}
+use borrow.Author.Tests.{lt-ltb, le-ltb}
+use Rattle.btor2.specs.declared.MaybeSort.{MaybeSort}
+use Rattle.btor2.specs.declared.MaybeSort.the-variants.{Sort, NoSort}
+use Rattle.btor2.specs.Op.{unknown, carried}
+use Rattle.btor2_list.specs.declared.Looked.{Looked}
+use Rattle.btor2_list.specs.declared.Looked.the-variants.{Outside, NoValue, Value}
+use Rattle.btor2_list.specs.declared.Line.{Line}
+use Rattle.btor2_list.specs.declared.Found.the-variants.{Line as found, Outside as Outside′}
+use Rattle.btor2_list.specs.Record.{stride, lineAt, getAt}
+use Rattle.btor2_list.specs.Node.{Node, node, nodeOf}
+use Rattle.btor2_list.specs.Look.{seenAs, lookAt}
+use Rattle.btor2_list.proofs.View.{view-length, view-at}
+use Rattle.line_text.specs.Line.{nodes, nodeAt, nidAt}
+
+abbrev pub nidOf : Looked → ℕ
+nidOf Outside = 0
+nidOf (NoValue nid) = nid .0
+nidOf (Value nid s) = nid .0
+
+nid-seen : (nid : ℕ) (m : MaybeSort) → nidOf (seenAs nid m) ≡ nid
+nid-seen nid (Sort s) = refl
+nid-seen nid NoSort = refl
+
+nid : {m n : Node} → m ≡ n → m .nid ≡ n .nid
+nid e = ap (λ (x : Node). x .nid) e
+
+module _ (ws : List ℕ) (n p : ℕ) where
+  pub length-nodes : length (nodes ws n) ≡ min n (length ws / stride)
+  length-nodes = view-length ws _
+
+  pub inside : p < n → p < length ws / stride → nodeAt (nodes ws n) p ≡ nodeOf (lineAt ws (p * stride))
+  inside h k = view-at ws _ _ p (omega arith)
+
+  pub outside : length (nodes ws n) ≤ p → nodeAt (nodes ws n) p ≡ node 0 unknown
+  outside h = List·getD-eq-default (nodes ws n) (node 0 unknown) h
+
+  pub look-nid : nidOf (lookAt ws n p) ≡ nidAt (nodes ws n) p
+  look-nid = go (decLe n p) (decLe (length ws / stride) p)
+    where
+      go : Dec (n ≤ p) → Dec (length ws / stride ≤ p) → nidOf (lookAt ws n p) ≡ nidAt (nodes ws n) p
+      go (yes h) k = rw (le-ltb p n h) (nid (sym (outside (omega (arith, length-nodes)))))
+      go (no h) (yes k) =
+          let l : p < n = omega arith in
+          rw (lt-ltb p n l, le-ltb p (length ws / stride) k) (nid (sym (outside (omega (arith, length-nodes)))))
+      go (no h) (no k) =
+          let x = nodeOf (lineAt ws (p * stride)) in
+          let l : p < n = omega arith in
+          let m : p < length ws / stride = omega arith in
+          rw (lt-ltb p n l, lt-ltb p (length ws / stride) m) (nid-seen (x .nid) (carried (x .op)) ∙ nid (sym (inside l m)))
+
+  -- ---- the record at a place, by what getting it tells
+
+  pub got : (l : Line) → found l ≡ getAt ws p → p < n → nodeAt (nodes ws n) p ≡ nodeOf l
+  got l e h = go (decLe (length ws / stride) p)
+    where
+      go : Dec (length ws / stride ≤ p) → nodeAt (nodes ws n) p ≡ nodeOf l
+      go (yes k) = let o : found l ≡ Outside′ = e ∙ rw (le-ltb p (length ws / stride) k) in let z : _≡_ {A = ℕ} 0 1 = cc in absurd (omega arith)
+      go (no k) =
+          let m : p < length ws / stride = omega arith in
+          let o : found l ≡ found (lineAt ws (p * stride)) = e ∙ rw (lt-ltb p (length ws / stride) m) in
+          let i : l ≡ lineAt ws (p * stride) = cc in inside h m ∙ ap nodeOf (sym i)
+
+  pub not-got : Outside′ ≡ getAt ws p → length (nodes ws n) ≤ p
+  not-got e = go (decLe (length ws / stride) p)
+    where
+      go : Dec (length ws / stride ≤ p) → length (nodes ws n) ≤ p
+      go (yes k) = omega (arith, length-nodes)
+      go (no k) =
+          let m : p < length ws / stride = omega arith in
+          let o : Outside′ ≡ found (lineAt ws (p * stride)) = e ∙ rw (lt-ltb p (length ws / stride) m) in
+          let z : _≡_ {A = ℕ} 0 1 = cc in absurd (omega arith)

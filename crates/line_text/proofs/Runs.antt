@@ -1,0 +1,47 @@
+-- A run is its first line and the run behind it. Assumes nothing.
+use Prim.Native.Nat.{ℕ, zero, suc, _+_, _-_, _^_, _≤_, _<_}
+use mathlib.Core.Path.{_≡_, refl, sym, ap, _∙_}
+use mathlib.Core.List.{List, [], _++_}
+use native.Mathlib.Decide.{decLe}
+use native.Mathlib.Numerals.{add-one}
+use native.Mathlib.Omega.{arith}
+use lib.ListN.{length, drop-of-length-le, List·getD-eq-default}
+use lib.Seq.{drop-cons, take-nil}
+use Rattle.text.specs.Put.{Put}
+use Rattle.text.proofs.Laws.{put-as}
+use Rattle.btor2.specs.Op.{unknown, mapOp}
+use Rattle.btor2_list.specs.Node.{Node, node}
+use Rattle.line_text.specs.Line.{lineText, nodeAt, nodeText, nodesText, runText}
+
+-- a text that is empty is put by doing nothing
+pub nothing : {l t : List ℕ} {at : ℕ} → at < 2 ^ 64 → t ≡ [] → Put l at t l at
+nothing h e = put-as {s = []} (record { list = refl; next = omega arith }) (sym e)
+
+module _ (host ours : List ℕ) (ns : List Node) where
+  -- past the end there is nothing
+  pub run-past : (p n : ℕ) → length ns ≤ p → runText host ours ns p n ≡ []
+  unfolding nodesText
+  run-past p n h = rw (drop-of-length-le ns h, take-nil {A = Node} n)
+
+  pub line-past : (p : ℕ) → length ns ≤ p → nodeText host ours ns (nodeAt ns p) ≡ []
+  unfolding lineText mapOp
+  line-past p h = rw (List·getD-eq-default ns (node 0 unknown) h)
+
+  pub run-none : (p n : ℕ) → n ≡ 0 → runText host ours ns p n ≡ []
+  unfolding nodesText
+  run-none p n e = rw e
+
+  run-in : (p n : ℕ) → p < length ns → runText host ours ns p (suc n) ≡ nodeText host ours ns (nodeAt ns p) ++ runText host ours ns (suc p) n
+  unfolding nodesText
+  run-in p n h = rw (drop-cons ns p (node 0 unknown) h)
+
+  run-suc : (p n : ℕ) → runText host ours ns p (suc n) ≡ nodeText host ours ns (nodeAt ns p) ++ runText host ours ns (suc p) n
+  run-suc p n = go (decLe (length ns) p)
+    where
+      go : Dec (length ns ≤ p) → runText host ours ns p (suc n) ≡ nodeText host ours ns (nodeAt ns p) ++ runText host ours ns (suc p) n
+      go (yes h) = run-past p (suc n) h ∙ sym (ap (λ (t : List ℕ). t ++ runText host ours ns (suc p) n) (line-past p h) ∙ run-past (suc p) n (omega arith))
+      go (no h) = run-in p n (omega arith)
+
+  pub run-on : (p n : ℕ) → 0 < n → runText host ours ns p n ≡ nodeText host ours ns (nodeAt ns p) ++ runText host ours ns (p + 1) (n - 1)
+  run-on p zero h = absurd (omega arith)
+  run-on p (suc n) h = let e : suc n - 1 ≡ n = omega arith in rw (add-one p, e) (run-suc p n)

@@ -1,0 +1,65 @@
+-- What is put, and the run from here on, are the whole run. Assumes nothing.
+use Prim.Native.Nat.{ℕ}
+use mathlib.Core.Path.{_≡_, refl, sym, ap, _∙_}
+use mathlib.Core.List.{List, [], _++_, append-assoc, append-nil}
+use denote.Ref.{now}
+use native.Mathlib.Omega.{arith}
+use Rattle.text.specs.Put.{Put}
+use Rattle.text.proofs.Laws.{then, put-as, put-length}
+use Rattle.line_text.specs.Line.{nodes, nodeAt, nodeText, runText}
+use Rattle.line_text.proofs.Listed.{length-nodes}
+use Rattle.line_text.proofs.Runs.{run-past, run-none, run-on}
+use borrow.Author.Needs.{needs}
+use Rattle.line_text.proofs.put_run.Statement.{statement}
+use Rattle.line_text.proofs.put_run.Tie as tie
+
+abbrev Inv-loop : tie.InvT-loop
+Inv-loop out₀ at list lines host ours from count p₀ place₀ left₀ out p place left =
+    (s : List ℕ) × Put out₀ at s out p × (s ++ runText host ours (nodes list lines) place left ≡ runText host ours (nodes list lines) from count)
+
+abbrev μ-loop : tie.MeasureT-loop
+μ-loop out₀ at list lines host ours from count p₀ place₀ left₀ out p place left = left
+
+loop-holds : tie.Need-loop-holds Inv-loop μ-loop
+loop-holds c = ([], record { list = refl; next = omega arith }, refl)
+
+same-length : tie.Need-same-length Inv-loop μ-loop
+same-length c = put-length (c .before .before .loop .inv .1)
+
+returns : tie.Need-returns Inv-loop μ-loop
+returns c =
+    let l = c .before .before in
+    let a = l .before .before .before .before .before .args in
+    let ns = nodes (now (a .list)) (a .lines) in
+    let past = run-past (now (a .host)) (now (a .ours)) ns (l .loop .place) (l .loop .left) (omega (arith, length-nodes (now (a .list)) (a .lines) 0)) in
+    put-as (l .loop .inv .1) (sym (append-nil _) ∙ ap (λ (t : List ℕ). l .loop .inv .0 ++ t) (sym past) ∙ l .loop .inv .2)
+
+loop-again : tie.Need-loop-again Inv-loop μ-loop
+loop-again c =
+    let q = c .before .before in
+    let l = q .before .before .before .before in
+    let a = l .before .before .before .before .before .args in
+    let ns = nodes (now (a .list)) (a .lines) in
+    let t = nodeText (now (a .host)) (now (a .ours)) ns (nodeAt ns (l .loop .place)) in
+    let on = run-on (now (a .host)) (now (a .ours)) ns (l .loop .place) (l .loop .left) (omega arith) in (
+      l .loop .inv .0 ++ t,
+      then (l .before .before .before .before .before .good .0 .0) (l .loop .inv .1) (q .put-line .ensures),
+      append-assoc (l .loop .inv .0) t _ ∙ ap (λ (r : List ℕ). l .loop .inv .0 ++ r) (sym on) ∙ l .loop .inv .2,
+    )
+
+same-length-2 : tie.Need-same-length-2 Inv-loop μ-loop
+same-length-2 c = put-length (c .before .loop .inv .1)
+
+returns-2 : tie.Need-returns-2 Inv-loop μ-loop
+returns-2 c =
+    let l = c .before in
+    let a = l .before .before .before .before .before .args in
+    let ns = nodes (now (a .list)) (a .lines) in
+    let z : l .loop .left ≡ 0 = omega arith in
+    put-as (l .loop .inv .1)
+    (sym (append-nil _) ∙ ap (λ (r : List ℕ). l .loop .inv .0 ++ r) (sym (run-none (now (a .host)) (now (a .ours)) ns (l .loop .place) (l .loop .left) z)) ∙ l .loop .inv .2)
+
+pub put-run-spec : {M : Type 1} → statement M
+put-run-spec =
+    tie.close
+    (tie.spec Inv-loop μ-loop loop-holds same-length returns (λ c κs. search needs) (λ c. search needs) (λ c. search needs) (λ c. search needs) loop-again same-length-2 returns-2)

@@ -1,0 +1,87 @@
+-- The text of node lines, clause by clause as unicorn's `write_model` prints them with 64-bit values.
+use Prim.Native.Nat.{ℕ, _+_, _-_, _/_, _%_, _^_, min}
+use Prim.Native.String.{String}
+use mathlib.Core.Bool.{true, false, cond, _||_}
+use mathlib.Core.List.{List, [], _∷_, _++_}
+use lib.Dec.{eqb}
+use lib.ListN.{length, getD, take, drop}
+use Rattle.btor2.specs.declared.Name.{Name}
+use Rattle.btor2.specs.Sort.{sortNumber, width}
+use Rattle.btor2.specs.Op.{Bin, add, sub, mul, udiv, sdiv, urem, sll, srl, ult, Op, const, read, write, bin, uext, ite, eq, and, or, not, state, stateInit, next, input, bad, unknown, mapOp, binSort}
+use Rattle.btor2_list.specs.Record.{stride}
+use Rattle.btor2_list.specs.Node.{Node, node}
+use Rattle.btor2_list.specs.View.{view}
+use Rattle.btor2_name.specs.NameBytes.{nameBytes}
+use Rattle.node_text.specs.Words.{ascii}
+use Rattle.node_text.specs.Row.{written}
+
+-- ---- a line whose operands are identifiers
+
+abbrev pub plain : ℕ → String → List ℕ → List ℕ
+plain nid word numbers = written nid (ascii word) numbers false []
+
+abbrev pub named : ℕ → String → ℕ → List ℕ → List ℕ
+named nid word number name = written nid (ascii word) (number ∷ []) true name
+
+abbrev pub binWord : Bin → String
+binWord add = "add"
+binWord sub = "sub"
+binWord mul = "mul"
+binWord udiv = "udiv"
+binWord sdiv = "sdiv"
+binWord urem = "urem"
+binWord sll = "sll"
+binWord srl = "srl"
+binWord ult = "ult"
+
+-- `names` gives what is printed for a name. The Rust prints uext's operand `as u32` and an init's identifier as a u64 sum: of identifiers
+-- that pass refusal 9 the first changes nothing and the second does not wrap. A line of unknown kind or sort, which refusal 11 rules out,
+-- has no text; nor has the Rust one for a uext from Memory, which is refused too.
+unfoldable pub lineText : (Name → List ℕ) → ℕ → Op ℕ → List ℕ
+lineText names nid (const s imm) = plain nid "constd" (sortNumber s ∷ imm ∷ [])
+lineText names nid (read m a) = plain nid "read" (2 ∷ m ∷ a ∷ [])
+lineText names nid (write m a v) = plain nid "write" (3 ∷ m ∷ a ∷ v ∷ [])
+lineText names nid (bin o a b) = plain nid (binWord o) (sortNumber (binSort o) ∷ a ∷ b ∷ [])
+lineText names nid (uext from a) = plain nid "uext" (2 ∷ a ∷ (64 - width from) ∷ [])
+lineText names nid (ite s c a b) = plain nid "ite" (sortNumber s ∷ c ∷ a ∷ b ∷ [])
+lineText names nid (eq a b) = plain nid "eq" (1 ∷ a ∷ b ∷ [])
+lineText names nid (and s a b) = plain nid "and" (sortNumber s ∷ a ∷ b ∷ [])
+lineText names nid (or s a b) = plain nid "or" (sortNumber s ∷ a ∷ b ∷ [])
+lineText names nid (not s a) = plain nid "not" (sortNumber s ∷ a ∷ [])
+lineText names nid (state s m) = named nid "state" (sortNumber s) (names m)
+lineText names nid (stateInit s a m) =
+    named nid "state" (sortNumber s) (names m) ++ plain ((nid + 1) % 2 ^ 64) "init" (sortNumber s ∷ nid ∷ a ∷ [])
+lineText names nid (next s a b) = plain nid "next" (sortNumber s ∷ a ∷ b ∷ [])
+lineText names nid (input s m) = named nid "input" (sortNumber s) (names m)
+lineText names nid (bad a m) = named nid "bad" a (names m)
+lineText names nid unknown = []
+
+-- ---- names and operands of a list
+
+-- "A missing name prints `?`"; another one is printed as the very bytes of its area
+unfoldable pub printedName : List ℕ → List ℕ → Name → List ℕ
+printedName host ours name = cond (eqb (name .area) 1 || eqb (name .area) 2) (nameBytes host ours name) (ascii "?")
+
+-- the lines of a list of n lines, as far as the lent words reach
+abbrev pub nodes : List ℕ → ℕ → List Node
+nodes ws n = view ws (min n (length ws / stride))
+
+abbrev pub nodeAt : List Node → ℕ → Node
+nodeAt ns p = getD ns p (node 0 unknown)
+
+-- `get_nid`: the identifier of the line at a place, 0 where there is none
+abbrev pub nidAt : List Node → ℕ → ℕ
+nidAt ns p = nodeAt ns p .nid
+
+-- a line whose operands are places of a list
+abbrev pub nodeText : List ℕ → List ℕ → List Node → Node → List ℕ
+nodeText host ours ns n = lineText (printedName host ours) (n .nid) (mapOp (nidAt ns) (n .op))
+
+-- ---- a run of a list's lines
+
+unfoldable pub nodesText : List ℕ → List ℕ → List Node → List Node → List ℕ
+nodesText host ours ns [] = []
+nodesText host ours ns (n ∷ run) = nodeText host ours ns n ++ nodesText host ours ns run
+
+abbrev pub runText : List ℕ → List ℕ → List Node → ℕ → ℕ → List ℕ
+runText host ours ns from count = nodesText host ours ns (take count (drop from ns))

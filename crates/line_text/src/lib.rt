@@ -1,0 +1,281 @@
+// Node lines as text (the per-node part of unicorn's `write_model`): a line is one row, or two for a State with an init.
+use btor2::MaybeSort;
+use btor2::Name;
+use btor2::Nid;
+use btor2::NodeRef;
+use btor2_list::BAD;
+use btor2_list::CONST;
+use btor2_list::EXT;
+use btor2_list::Found;
+use btor2_list::Line;
+use btor2_list::Looked;
+use btor2_list::STATE;
+use node_text::Row;
+use node_text::put_row;
+ghost use mathlib.Core.Path.{_≡_};
+ghost use mathlib.Core.Bool.{cond, true, false};
+ghost use Prim.Native.Nat.{ℕ, _-_};
+ghost use Rattle.text.specs.Put.{Put};
+ghost use Rattle.btor2.specs.Sort.{sortNumbered, width};
+ghost use Rattle.btor2.specs.declared.NodeType.{NodeType};
+ghost use Rattle.btor2.specs.declared.MaybeSort.the-variants.{Sort, NoSort};
+ghost use Rattle.btor2.specs.Op.{mapOp, unknown};
+ghost use Rattle.btor2_list.specs.Node.{opOf, nodeOf};
+ghost use Rattle.node_text.specs.Row.{rowText};
+ghost use Rattle.line_text.specs.Line.{lineText, printedName, nodes, nodeAt, nidAt, nodeText, runText};
+
+// What stands behind the word of each kind's line, by the kind's number. The first number is a sort, which is fixed or, where 0 stands
+// here, the record's own; Bad's is its operand. The lines with one number have a name behind it.
+const SORTS: [u64; 23] = [
+    0,
+    0,
+    2,
+    3,
+    2,
+    2,
+    2,
+    2,
+    2,
+    2,
+    2,
+    2,
+    1,
+    2,
+    0,
+    1,
+    0,
+    0,
+    0,
+    0,
+    0,
+    0,
+    1,
+];
+
+const NUMBERS: [u8; 23] = [
+    0,
+    2,
+    3,
+    4,
+    3,
+    3,
+    3,
+    3,
+    3,
+    3,
+    3,
+    3,
+    3,
+    3,
+    4,
+    3,
+    3,
+    3,
+    2,
+    1,
+    3,
+    1,
+    1,
+];
+
+fn pick(test: bool, x: u64, y: u64) -> u64
+    ensures { λ r. ⌜ r ≡ cond test x y ⌝ }
+{
+    if test { x } else { y }
+}
+
+// Whether a number is a sort's.
+fn is_sort(number: u64) -> bool
+    ensures { λ r. ⌜ (r ≡ true → (s : NodeType) × (sortNumbered number ≡ Sort s)) × (r ≡ false → sortNumbered number ≡ NoSort) ⌝ }
+{
+    match btor2::sort_of(number) {
+        MaybeSort::Sort(_) => true,
+        MaybeSort::NoSort => false,
+    }
+}
+
+// Whether a record has a known kind and, where the kind has one of its own, a known sort.
+fn known(line: Line) -> bool
+    ensures { λ r. ⌜ (r ≡ true → opOf line ≡ unknown → ⊥) × (r ≡ false → opOf line ≡ unknown) ⌝ }
+{
+    let kind = line.kind;
+    if kind == 0 {
+        return false;
+    }
+    if BAD < kind {
+        return false;
+    }
+    // printed as a Word, and extended from a sort of its own
+    if kind == EXT {
+        return is_sort(line.sort);
+    }
+    if SORTS[kind as usize] != 0 {
+        return true;
+    }
+    is_sort(line.sort)
+}
+
+// How many bits a value of a sort lacks to a Word.
+fn padding(from: u64) -> u64
+    ensures { λ r. ⌜ ((s : NodeType) → sortNumbered from ≡ Sort s → r ≡ 64 - width s) ⌝ }
+{
+    match btor2::sort_of(from) {
+        MaybeSort::Sort(s) => 64 - btor2::bitsize(s),
+        MaybeSort::NoSort => 0,
+    }
+}
+
+// A row with its name, `?` where that is missing.
+fn put_named<'a>(
+    out: &mut [u8],
+    at: usize,
+    row: Row,
+    host: &'a [u8],
+    ours: &'a [u8],
+    name: Name,
+) -> usize
+    ensures { λ r. ⌜ Put (now (out .entry)) at (rowText row (printedName (now (host .entry)) (now (ours .entry)) name)) (now (out .exit)) r ⌝ }
+{
+    let area = name.area;
+    if area == btor2_name::HOST {
+        return put_row(out, at, row, btor2_name::name_bytes(host, ours, name));
+    }
+    if area == btor2_name::OURS {
+        return put_row(out, at, row, btor2_name::name_bytes(host, ours, name));
+    }
+    put_row(out, at, row, b"?")
+}
+
+// The row, or the two rows, of a record whose operands have the identifiers a, b and c.
+fn put_record<'a>(
+    out: &mut [u8],
+    at: usize,
+    line: Line,
+    a: Nid,
+    b: Nid,
+    c: Nid,
+    host: &'a [u8],
+    ours: &'a [u8],
+) -> usize
+    requires { ⌜ (opOf line ≡ unknown → ⊥) ⌝ }
+    ensures { λ r. ⌜ ((f : ℕ → ℕ) → f (line .op1 .0) ≡ a .0 → f (line .op2 .0) ≡ b .0 → f (line .op3 .0) ≡ c .0 → Put (now (out .entry)) at (lineText (printedName (now (host .entry)) (now (ours .entry))) (line .nid .0) (mapOp f (opOf line))) (now (out .exit)) r) ⌝ }
+{
+    let kind = line.kind;
+    let nid = line.nid.0;
+    let imm = line.imm;
+    let k = kind as usize;
+    let fixed = SORTS[k];
+    let n = NUMBERS[k];
+    let sort = pick(fixed == 0, line.sort, fixed);
+    let first = pick(kind == BAD, a.0, sort);
+    let second = pick(kind == CONST, imm, a.0);
+    let third = pick(kind == EXT, padding(line.sort), b.0);
+    let row = Row {
+        nid,
+        word: k,
+        n,
+        a: first,
+        b: second,
+        c: third,
+        d: c.0,
+        named: n == 1,
+    };
+    let p = put_named(out, at, row, host, ours, line.name);
+    if kind != STATE {
+        return p;
+    }
+    if imm == 0 {
+        return p;
+    }
+    let init = Row {
+        nid: std::num::wrapping_add_u64(nid, 1),
+        word: 0,
+        n: 3,
+        a: sort,
+        b: nid,
+        c: a.0,
+        d: 0,
+        named: false,
+    };
+    put_row(out, p, init, b"")
+}
+
+// The identifier of the line at a place (unicorn's `get_nid`), 0 where there is none.
+fn nid_at(list: &[u64], lines: usize, place: NodeRef) -> Nid
+    ensures { λ r. ⌜ r .0 ≡ nidAt (nodes (now (list .entry)) lines) (place .0) ⌝ }
+{
+    match btor2_list::look(list, lines, place) {
+        Looked::Value(nid, _) => nid,
+        Looked::NoValue(nid) => nid,
+        Looked::Outside => Nid(0),
+    }
+}
+
+// A record of the list.
+fn put_found<'a>(
+    out: &mut [u8],
+    at: usize,
+    list: &[u64],
+    lines: usize,
+    host: &'a [u8],
+    ours: &'a [u8],
+    line: Line,
+) -> usize
+    ensures { λ r. ⌜ Put (now (out .entry)) at (nodeText (now (host .entry)) (now (ours .entry)) (nodes (now (list .entry)) lines) (nodeOf line)) (now (out .exit)) r ⌝ }
+{
+    if known(line) {
+        let a = nid_at(list, lines, line.op1);
+        let b = nid_at(list, lines, line.op2);
+        let c = nid_at(list, lines, line.op3);
+        return put_record(out, at, line, a, b, c, host, ours);
+    }
+    at
+}
+
+// The line at a place of a list of `lines` lines; nothing where there is none.
+pub fn put_line<'a>(
+    out: &mut [u8],
+    at: usize,
+    list: &[u64],
+    lines: usize,
+    host: &'a [u8],
+    ours: &'a [u8],
+    place: NodeRef,
+) -> usize
+    ensures { λ r. ⌜ Put (now (out .entry)) at (nodeText (now (host .entry)) (now (ours .entry)) (nodes (now (list .entry)) lines) (nodeAt (nodes (now (list .entry)) lines) (place .0))) (now (out .exit)) r ⌝ }
+{
+    if lines <= place.0 {
+        return at;
+    }
+    match btor2_list::get(list, place) {
+        Found::Line(line) => put_found(out, at, list, lines, host, ours, line),
+        Found::Outside => at,
+    }
+}
+
+// The `count` lines from a place on; fewer where the list ends.
+pub fn put_run<'a>(
+    out: &mut [u8],
+    at: usize,
+    list: &[u64],
+    lines: usize,
+    host: &'a [u8],
+    ours: &'a [u8],
+    from: usize,
+    count: usize,
+) -> usize
+    ensures { λ r. ⌜ Put (now (out .entry)) at (runText (now (host .entry)) (now (ours .entry)) (nodes (now (list .entry)) lines) from count) (now (out .exit)) r ⌝ }
+{
+    let mut p = at;
+    let mut place = from;
+    let mut left = count;
+    while 0 < left {
+        if lines <= place {
+            return p;
+        }
+        p = put_line(out, p, list, lines, host, ours, NodeRef(place));
+        place += 1;
+        left -= 1;
+    }
+    p
+}
