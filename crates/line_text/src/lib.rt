@@ -201,7 +201,7 @@ fn put_record<'a>(
 }
 
 // The identifier of the line at a place (unicorn's `get_nid`), 0 where there is none.
-fn nid_at(list: &[u64], lines: usize, place: NodeRef) -> Nid
+pub fn nid_at(list: &[u64], lines: usize, place: NodeRef) -> Nid
     ensures { λ r. ⌜ r .0 ≡ nidAt (nodes (now (list .entry)) lines) (place .0) ⌝ }
 {
     match btor2_list::look(list, lines, place) {
