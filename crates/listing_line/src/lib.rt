@@ -92,7 +92,7 @@ fn assemble(
 }
 
 // How many bytes stand before the first b.
-fn up_to(s: &[u8], b: u8) -> usize
+pub fn up_to(s: &[u8], b: u8) -> usize
     ensures { λ r. ⌜ r ≡ before b (now (s .entry)) ⌝ }
 {
     let mut i = 0;
