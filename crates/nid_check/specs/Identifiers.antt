@@ -1,0 +1,54 @@
+-- Refusal 10 (document 01, "Who can be refused, and with what"): "identifiers don't rise (two for a State with init), one taken is 0, 1, 2, 3
+-- or 11 to 17, or the next one isn't above 17 and all those taken".
+use Prim.Native.Nat.{ℕ, _+_}
+use mathlib.Core.Bool.{Bool, true, false, cond, not, _&&_, _||_}
+use mathlib.Core.List.{List, [], _∷_, _++_}
+use lib.Dec.{leb, ltb}
+use Rattle.btor2.specs.Op as O
+use Rattle.btor2.specs.Op.{Op}
+use Rattle.btor2_list.specs.Node.{Node}
+use Rattle.btor2_list.specs.View.{view}
+use Rattle.list_check.specs.Lines.{any, pastWords}
+
+abbrev pub hasInit : Op ℕ → Bool
+hasInit (O.const s n) = false
+hasInit (O.read m a) = false
+hasInit (O.write m a v) = false
+hasInit (O.bin o a b) = false
+hasInit (O.uext s a) = false
+hasInit (O.ite s c a b) = false
+hasInit (O.eq a b) = false
+hasInit (O.and s a b) = false
+hasInit (O.or s a b) = false
+hasInit (O.not s a) = false
+hasInit (O.state s m) = false
+hasInit (O.stateInit s a m) = true
+hasInit (O.next s a b) = false
+hasInit (O.input s m) = false
+hasInit (O.bad a m) = false
+hasInit O.unknown = false
+
+-- the identifiers that lines take: "two for a State with init"; a line of an unknown kind takes one
+abbrev pub takenBy : Node → List ℕ
+takenBy x = cond (hasInit (x .op)) (x .nid ∷ (x .nid + 1) ∷ []) (x .nid ∷ [])
+
+unfoldable pub taken : List Node → List ℕ
+taken [] = []
+taken (x ∷ xs) = takenBy x ++ taken xs
+
+-- each is above the one before it, and the first above `last`
+unfoldable pub rising : ℕ → List ℕ → Bool
+rising last [] = true
+rising last (t ∷ ts) = ltb last t && rising t ts
+
+-- "0, 1, 2, 3 or 11 to 17"
+abbrev pub reserved : ℕ → Bool
+reserved t = ltb t 4 || (leb 11 t && leb t 17)
+
+-- 10, of the identifiers taken and the next one. That the first is above 0 asks no more, since 0 is reserved.
+unfoldable pub nidsOut : ℕ → List ℕ → Bool
+nidsOut next ts = not (rising 0 ts) || (any reserved ts || (leb next 17 || any (leb next) ts))
+
+-- of the first n lines of the lent words, or the words do not hold n lines
+abbrev pub nidsOutWords : List ℕ → ℕ → ℕ → Bool
+nidsOutWords ws n next = pastWords ws n || nidsOut next (taken (view ws n))

@@ -1,0 +1,2 @@
+pub mod Identifiers
+pub mod Inside
