@@ -1,0 +1,13 @@
+-- One sort, then the other. Assumes nothing.
+use borrow.Author.Needs.{needs}
+use Rattle.sort_check.proofs.both.Statement.{statement}
+use Rattle.sort_check.proofs.both.Tie as tie
+
+returns : tie.Need-returns
+returns c = rw (← c .before .before .of-sort .ensures, c .before .if1 .taken) (c .of-sort2 .ensures)
+
+returns-2 : tie.Need-returns-2
+returns-2 c = rw (← c .before .of-sort .ensures, c .if1 .left)
+
+pub both-spec : {M : Type 1} → statement M
+both-spec = tie.close (tie.spec (λ c κs. search needs) (λ c κs. search needs) returns returns-2)

@@ -1,0 +1,51 @@
+-- Two variants of the operators are States. Assumes nothing.
+use Prim.Native.Nat.{ℕ}
+use mathlib.Core.Path.{_≡_, refl, sym}
+use mathlib.Core.Bool.{false}
+use mathlib.Core.List.{List, [], _∷_}
+use borrow.Author.Needs.{needs}
+use denote.Enum.Declared.{tagOf}
+use types.Run.{OneOf, miss}
+use Rattle.btor2.specs.SortRule.{isStateOp}
+use Rattle.list_check.proofs.Operator.{the-type}
+use Rattle.list_check.specs.declared.Operator.{Operator}
+use Rattle.list_check.specs.declared.Operator.the-variants.{Const, Read, Write, Binary, Ext, Ite, Eq, And, Or, Not, State, StateInit, Next, Input, Bad, Unknown}
+use Rattle.list_check.specs.Operator.{opFrom}
+use Rattle.sort_check.proofs.is_state.Statement.{statement}
+use Rattle.sort_check.proofs.is_state.Tie as tie
+
+abbrev others : List ℕ
+others = 0 ∷ 1 ∷ 2 ∷ 3 ∷ 4 ∷ 5 ∷ 6 ∷ 7 ∷ 8 ∷ 9 ∷ 12 ∷ 13 ∷ 14 ∷ 15 ∷ []
+
+plain : (o : Operator) → OneOf others (tagOf the-type o) → isStateOp (opFrom o) ≡ false
+unfolding isStateOp
+plain (Const s n) h = refl
+plain (Read m a) h = refl
+plain (Write m a v) h = refl
+plain (Binary o a b) h = refl
+plain (Ext s a) h = refl
+plain (Ite s c a b) h = refl
+plain (Eq a b) h = refl
+plain (And s a b) h = refl
+plain (Or s a b) h = refl
+plain (Not s a) h = refl
+plain (State s m) h = absurd (miss others 10 tt h)
+plain (StateInit s a m) h = absurd (miss others 11 tt h)
+plain (Next s a b) h = refl
+plain (Input s m) h = refl
+plain (Bad a m) h = refl
+plain Unknown h = refl
+
+returns : tie.Need-returns
+unfolding isStateOp
+returns c = rw (← c .before .before .operator-of .ensures, c .enum-told .given .1)
+
+returns-2 : tie.Need-returns-2
+unfolding isStateOp
+returns-2 c = rw (← c .before .before .operator-of .ensures, c .enum-told2 .given .1)
+
+returns-3 : tie.Need-returns-3
+returns-3 c = rw (← c .before .operator-of .ensures) (sym (plain (c .before .operator-of .result) (c .match .keys3)))
+
+pub is-state-spec : {M : Type 1} → statement M
+is-state-spec = tie.close (tie.spec (λ c κs. search needs) (λ c. search needs) (λ c. search needs) returns returns-2 returns-3)
