@@ -16,8 +16,8 @@ use Rattle.btor2_list.specs.Node.{Node, node, opOf, nodeOf}
 use Rattle.btor2_list.specs.View.{view}
 use Rattle.btor2_list.specs.Look.{seenAs, lookAt}
 use Rattle.btor2_list.proofs.View.{view-length, view-at}
-use Rattle.list_check.specs.Lines.{ops, opAt, some, pastWords}
-use Rattle.list_check.specs.Formed.{hasValue, earlierValue, opUnformed, lineUnformed, unformed, unformedWords}
+use Rattle.list_check.specs.Lines.{ops, opAt, some, any, pastWords}
+use Rattle.list_check.specs.Formed.{isUnknown, extFromMemory, operands, nameOf, nameOutside, hasValue, earlierValue, opUnformed, lineUnformed, unformed, unformedWords}
 use Rattle.list_check.specs.Inside.{noValue, noValueAt}
 use Rattle.list_check.proofs.Some.{some-same, some-none}
 
@@ -65,3 +65,13 @@ unfolding unformed
 when-formed ws n host ours e =
     let both = neither (pastWords ws n) (unformed host ours (ops (view ws n))) e in
     (ltb-false (length ws / stride) n (both .0), λ p h. some-none (length (ops (view ws n))) (lineUnformed host ours (ops (view ws n))) (both .1) p (rw (ops-length ws n) h))
+
+-- and what a line that passes has
+pub formed-line : (host ours : ℕ) (out : ℕ → Bool) (o : Op ℕ) → opUnformed host ours out o ≡ false
+    → (isUnknown o ≡ false) × (extFromMemory o ≡ false) × (nameOutside host ours (nameOf o) ≡ false) × (any out (operands o) ≡ false)
+unfolding opUnformed
+formed-line host ours out o e =
+    let p1 = neither (isUnknown o) _ e in
+    let p2 = neither (extFromMemory o) _ (p1 .1) in
+    let p3 = neither (nameOutside host ours (nameOf o)) _ (p2 .1) in
+    (p1 .0, p2 .0, p3 .0, p3 .1)
