@@ -1,5 +1,5 @@
--- The refusals of a start (document 01, "Who can be refused, and with what"): "A start is checked 9 to 13", each "over the whole list" before
--- the next; "First match wins".
+-- The refusals of a start (document 01, "Who can be refused, and with what"): "A start is checked 9 to 13. [..] First match wins": each is
+-- looked for in the whole list before the next.
 use Prim.Native.Nat.{ℕ, _^_}
 use mathlib.Core.Bool.{Bool, not, _||_}
 use mathlib.Core.List.{List, [], _∷_}
