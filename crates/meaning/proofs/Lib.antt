@@ -1,0 +1,3 @@
+pub mod Walk
+pub mod Roles
+pub mod KindSorts
