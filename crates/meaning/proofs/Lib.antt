@@ -1,3 +1,6 @@
 pub mod Walk
 pub mod Roles
 pub mod KindSorts
+pub mod Words
+pub mod Agrees
+pub mod KindValues

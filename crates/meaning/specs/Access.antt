@@ -1,8 +1,8 @@
 -- How many bytes a load or a store reaches: RISC-V Unprivileged ISA manual (20191213), sections 2.6 and 5.3.
 use Prim.Native.Nat.{ℕ, _+_, _%_, _^_, _≤_}
-use mathlib.Core.Bool.{cond}
+use mathlib.Core.Bool.{Bool, cond}
 use mathlib.Core.List.{[], _∷_}
-use Rattle.riscv.specs.Kind.{Kind, Lb, Lh, Lw, Ld, Lbu, Lhu, Sb, Sh, Sw, Sd, oneOf}
+use Rattle.riscv.specs.Kind.{Kind, Lb, Lh, Lw, Ld, Lbu, Lhu, Sb, Sh, Sw, Sd, Mul, Div, Divw, Mulw, oneOf}
 
 -- 0 for a kind that is neither
 abbrev pub accessBytes : Kind → ℕ
@@ -13,3 +13,7 @@ accessBytes k =
 -- "stays in one aligned 8-byte word": from the effective address, rs1 plus imm, on
 abbrev pub InOneWord : Kind → ℕ → ℕ → Type 0
 InOneWord k rs1 imm = (rs1 + imm) % 2 ^ 64 % 8 + accessBytes k ≤ 8
+
+-- "none accepted for Mul, Mulw, Div, Divw"
+abbrev pub excluded : Kind → Bool
+excluded k = oneOf k (Mul ∷ Mulw ∷ Div ∷ Divw ∷ [])
