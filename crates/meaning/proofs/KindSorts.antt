@@ -16,7 +16,7 @@ use Rattle.lowering_laws.proofs.Template.{Role, template}
 use Rattle.meaning.proofs.Roles.{fine}
 
 module _ (n : ℕ) (st rt : Role → Bool) (imm : ℕ) (h : imm < 2 ^ 64) (name : Name) where
-  pub kind-sorts : (k : Kind) (z d s : Bool) → T (not (oneOf k (Mul ∷ Mulw ∷ []))) → T (fine n st rt (template imm name k z d s))
+  pub kind-sorts : (k : Kind) (z d s : Bool) → T (not (oneOf k (Mul ∷ Mulw ∷ []))) → T (fine n st rt (needsFlag (class k) d s) (template imm name k z d s))
   unfolding template fine allRight
   kind-sorts Lui z d s v = rw (lt-ltb imm (2 ^ 64) h) tt
   kind-sorts Auipc z d s v = rw (lt-ltb imm (2 ^ 64) h) tt

@@ -4,3 +4,4 @@ pub mod KindSorts
 pub mod Words
 pub mod Agrees
 pub mod KindValues
+pub mod Behind

@@ -1,6 +1,6 @@
 -- The sorts of what an instruction's lines refer to, and what is asked of a template: one computed test. Assumes nothing.
 use Prim.Native.Nat.{ℕ}
-use mathlib.Core.Bool.{Bool, true, _&&_}
+use mathlib.Core.Bool.{Bool, true, false, _&&_, _||_}
 use mathlib.Core.List.{List, []}
 use Rattle.btor2.specs.declared.NodeType.{NodeType}
 use Rattle.btor2.specs.declared.NodeType.the-variants.{Bit, Word, Memory}
@@ -34,6 +34,12 @@ sortOf ecallFlow = Bit
 sortOf registerFlow = Word
 sortOf memoryFlow = Memory
 
+abbrev pub quiet : Outcome Ref → Bool
+quiet nothing = true
+quiet (register x) = false
+quiet (memory x) = false
+quiet (branch x y) = true
+
 -- behind n lines; a role may be a State or not, and what its own line is does not matter
 module _ (n : ℕ) (st rt : Role → Bool) where
   abbrev pub known : Role → Judged
@@ -61,7 +67,9 @@ module _ (n : ℕ) (st rt : Role → Bool) where
       has Memory own (f .counter) && (has Word own (f .maximum) && (has Word own (f .division) && (has Word own (f .remainder)
       && (has Word own (f .access) && (has Bit own (f .addition) && (has Bit own (f .multiplication) && has Bit own (f .ecall)))))))
 
-  -- the lines meet the sort rule; outcome and flows have their sorts
-  unfoldable pub fine : Reading Ref → Bool
+  -- the lines meet the sort rule; outcome and flows have their sorts; without a flag no flow of a register or of memory is written
+  unfoldable pub fine : Bool → Reading Ref → Bool
   unfolding sorts sortAt
-  fine t = allRight (sorts (t .lines)) && (outcomeHas (sorts (t .lines)) (t .gives .outcome) && flowsHave (sorts (t .lines)) (t .gives .flows))
+  fine needed t =
+      allRight (sorts (t .lines))
+      && (outcomeHas (sorts (t .lines)) (t .gives .outcome) && (flowsHave (sorts (t .lines)) (t .gives .flows) && (quiet (t .gives .outcome) || needed)))
