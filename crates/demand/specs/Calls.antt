@@ -1,0 +1,76 @@
+-- Any list of calls, by the definition that the code's `lower` equals. Document 01, "Start, storage, evaluation": "Demand 3 is one claim
+-- about the whole list of calls, not one for each: any records, addresses, flags and room. List, areas, identifier count and roles pass on,
+-- through a refused call as they were; edge, dispatch and bad lists may change in between."
+use Prim.Native.Nat.{ℕ, _*_}
+use mathlib.Core.Bool.{Bool}
+use mathlib.Core.List.{List, [], _∷_, _++_, map}
+use lib.Dec.{eqb}
+use lib.ListN.{take}
+use Rattle.btor2.specs.declared.NodeRef.{NodeRef}
+use Rattle.btor2.specs.Op.{Op}
+use Rattle.btor2_list.specs.Record.{stride}
+use Rattle.btor2_list.specs.View.{view}
+use Rattle.riscv.specs.declared.Instruction.{Instruction}
+use Rattle.lowering_refusals.specs.declared.State.{State}
+use Rattle.lowering.specs.Lowering.{Lent, lent, Answer, lowering}
+
+-- what passes on: the words of the list, our name area, and the state, which has the counts and the roles
+pub record Held : Type 0 where
+  pub list : List ℕ
+  pub names : List ℕ
+  pub state : State
+
+-- the lines that words stand for, without their identifiers
+unfoldable pub operators : List ℕ → ℕ → List (Op ℕ)
+operators words n = map (λ line. line .op) (view words n)
+
+-- the lines of the list
+abbrev pub linesIn : Held → List (Op ℕ)
+linesIn h = operators (h .list) (h .state .tally .lines)
+
+-- one lowering: the record, its address, the flag's place (one outside the list is an absent flag), and all that the host lends with it
+pub record Request : Type 0 where
+  pub instruction : Instruction
+  pub address : ℕ
+  pub flag : NodeRef
+  -- what lies behind the lines, and behind what is in use of our name area
+  pub spareList : List ℕ
+  pub spareNames : List ℕ
+  -- "edge, dispatch and bad lists may change in between": whole lists, and how much of each is in use
+  pub edges : List ℕ
+  pub dispatches : List ℕ
+  pub bads : List ℕ
+  pub edgeCount : ℕ
+  pub dispatchCount : ℕ
+  pub badCount : ℕ
+
+pub data Call : Type 0 where
+  lower : Request → Call
+
+-- what a call is lent: the words and bytes in use pass on, all else is the call's own
+unfoldable pub lentFor : Held → Request → Lent
+lentFor h c =
+    lent (take (h .state .tally .lines * stride) (h .list) ++ c .spareList) (take (h .state .counts .names) (h .names) ++ c .spareNames)
+    (c .edges) (c .dispatches) (c .bads)
+
+unfoldable pub stateFor : Held → Request → State
+stateFor h c = record {
+  tally = h .state .tally;
+  counts = record { names = h .state .counts .names; edges = c .edgeCount; dispatches = c .dispatchCount; bads = c .badCount };
+  roles = h .state .roles;
+}
+
+unfoldable pub answerTo : Held → Request → Answer
+answerTo h c = lowering (lentFor h c) (stateFor h c) (c .instruction) (c .address) (c .flag)
+
+-- the code's refusal is none
+unfoldable pub accepted : Held → Request → Bool
+accepted h c = eqb (answerTo h c .lowered .refusal) 0
+
+-- what is held after a call, accepted or refused
+unfoldable pub step : Held → Call → Held
+step h (lower c) = let a = answerTo h c in record { list = a .lent .list; names = a .lent .names; state = a .lowered .state }
+
+unfoldable pub run : Held → List Call → Held
+run h [] = h
+run h (c ∷ cs) = run (step h c) cs

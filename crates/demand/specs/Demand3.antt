@@ -1,0 +1,137 @@
+-- Demand 3, whole (document 01, "Start, storage, evaluation"). The quoted words are document 01's, and each hypothesis has a name.
+use Prim.Native.Nat.{ℕ, _+_, _*_, _^_, _≤_, _<_}
+use mathlib.Core.Path.{_≡_}
+use mathlib.Core.Bool.{Bool, cond, _&&_, not}
+use mathlib.Core.List.{List, [], _∷_}
+use lib.Dec.{T, eqb}
+use lib.ListN.{length}
+use Rattle.btor2.specs.SortRule.{meetsSortRule}
+use Rattle.btor2.specs.Value.{Value, Env, value}
+use Rattle.btor2_list.specs.Record.{stride}
+use Rattle.instruction_class.specs.Class.{class, needsFlag}
+use Rattle.riscv.specs.Kind.{Kind, kindAt}
+use Rattle.riscv.specs.Manual.{Effect, nothing, setsRd, setsMemory, manual}
+use Rattle.riscv.specs.Memory.{bytesOf, cellsWith}
+use Rattle.roles.specs.Roles.{role, registerNode, registerFlow, rolesFit}
+use Rattle.meaning.specs.Access.{InOneWord, excluded}
+use Rattle.demand.specs.Calls.{Held, linesIn, Request, Call, lower, accepted, step, run}
+
+-- ---- what is asked of the start and of the calls
+
+-- what the start's check accepts: "a list holds at most 1,048,576 lines and a start's next identifier is at most 2^31"; no "count above its
+-- storage"; the sort rule; no "role outside the list, not a value line, or of the wrong sort"
+pub record AcceptedStart (h : Held) : Type 0 where
+  pub most : h .state .tally .lines ≤ 1048576
+  pub identifier : h .state .tally .nid ≤ 2 ^ 31
+  pub stored : h .state .tally .lines * stride ≤ length (h .list)
+  pub sorted : T (meetsSortRule (linesIn h))
+  pub given : length (h .state .roles) ≡ 79
+  pub roles : T (rolesFit (h .list) (h .state .tally .lines) 0 (h .state .roles))
+
+-- "any records": imm is a word of 64 bits
+abbrev pub Records : List Call → Type 0
+Records [] = Unit {0}
+Records (lower c ∷ cs) = (c .instruction .imm < 2 ^ 64) × Records cs
+
+abbrev pub kindOf : Request → Kind
+kindOf c = kindAt (c .instruction .kind)
+
+-- "all kinds but Mul, Mulw, Div and Divw": none of them is accepted
+abbrev pub NoneExcluded : Held → List Call → Type 0
+NoneExcluded h [] = Unit {0}
+NoneExcluded h (lower c ∷ cs) = (T (accepted h c) → T (not (excluded (kindOf c)))) × NoneExcluded (step h (lower c)) cs
+
+-- ---- values: "a line's value is BTOR2's for given states and inputs"
+
+module _ (env : Env) where
+  unfoldable pub registerNodeValue : Held → ℕ → ℕ
+  registerNodeValue h r = value env (linesIn h) (registerNode (h .state .roles) r .0) .num
+
+  unfoldable pub memoryNodeValue : Held → ℕ → ℕ
+  memoryNodeValue h = value env (linesIn h) (role (h .state .roles) 4 .0) .mem
+
+  unfoldable pub registerFlowValue : Held → ℕ → ℕ
+  registerFlowValue h r = value env (linesIn h) (registerFlow (h .state .roles) r .0) .num
+
+  unfoldable pub memoryFlowValue : Held → ℕ → ℕ
+  memoryFlowValue h = value env (linesIn h) (role (h .state .roles) 70 .0) .mem
+
+-- "a flag is true at value 1, and one not needed isn't counted": the accepted calls that need a flag which is true, where the places of the
+-- list have the values v
+abbrev pub needsItsFlag : Request → Bool
+needsItsFlag c = needsFlag (class (kindOf c)) (eqb (c .instruction .rd) 0) (eqb (c .instruction .rs1) 0)
+
+abbrev pub isTrue : (ℕ → Value) → Held → Request → Bool
+isTrue v h c = accepted h c && (needsItsFlag c && eqb (v (c .flag .0) .num) 1)
+
+unfoldable pub trueCalls : (ℕ → Value) → Held → List Call → List Request
+trueCalls v h [] = []
+trueCalls v h (lower c ∷ cs) = cond (isTrue v h c) (c ∷ trueCalls v (step h (lower c)) cs) (trueCalls v (step h (lower c)) cs)
+
+-- ---- the manual's values: "of the register and memory flows, a store writes the memory flow, a branch or Ecall none, and any other of the 50
+-- rd's alone, or none where rd is x0"
+
+-- register r, from 1 to 31, and the word of memory at address a; `before` is the flow's value before
+abbrev pub registerAfter : Effect → ℕ → (ℕ → ℕ) → ℕ → ℕ
+registerAfter nothing rd before r = before r
+registerAfter (setsRd v) rd before r = cond (eqb r rd) v (before r)
+registerAfter (setsMemory bytes) rd before r = before r
+
+-- "a store leaves cells at other addresses as in the memory node"
+abbrev pub memoryAfter : Effect → (ℕ → ℕ) → (ℕ → ℕ) → ℕ → ℕ
+memoryAfter nothing node before a = before a
+memoryAfter (setsRd v) node before a = before a
+memoryAfter (setsMemory bytes) node before a = cellsWith node bytes a
+
+-- what the manual says of a call, its operands being those of register nodes and of the memory node
+unfoldable pub effectOf : (ℕ → ℕ) → (ℕ → ℕ) → Request → Effect
+effectOf registers memory c =
+    let i = c .instruction in manual (i .imm) (c .address) (registers (i .rs1)) (registers (i .rs2)) (bytesOf memory) (kindOf c)
+
+-- its load or store "stays in one aligned 8-byte word"
+abbrev pub InOneWordEach : (ℕ → ℕ) → List Request → Type 0
+InOneWordEach registers [] = Unit {0}
+InOneWordEach registers (c ∷ cs) = InOneWord (kindOf c) (registers (c .instruction .rs1)) (c .instruction .imm) × InOneWordEach registers cs
+
+-- ---- the claim
+
+module _ (env : Env) (start : Held) (calls : List Call) where
+  -- the calls with a true flag, the values being those of the whole list
+  abbrev pub trueOnes : List Request
+  trueOnes = trueCalls (value env (linesIn (run start calls))) start calls
+
+  -- at most one accepted call that needs a flag has it true
+  abbrev pub AtMostOne : Type 0
+  AtMostOne = length trueOnes ≤ 1
+
+  abbrev pub StaysInOneWord : Type 0
+  StaysInOneWord = InOneWordEach (registerNodeValue env start) trueOnes
+
+  -- x0's node is 0 (the given zeros and ones may have any value: no register's or memory's flow depends on them)
+  abbrev pub ZeroRegister : Type 0
+  ZeroRegister = registerNodeValue env start 0 ≡ 0
+
+  -- the flows once the one call is done, if there is one; "a starting value is that of the node given at the start"
+  abbrev pub registersBy : List Request → ℕ → ℕ
+  registersBy [] r = registerFlowValue env start r
+  registersBy (c ∷ cs) r =
+      registerAfter (effectOf (registerNodeValue env start) (memoryNodeValue env start) c) (c .instruction .rd) (registerFlowValue env start) r
+
+  abbrev pub memoryBy : List Request → ℕ → ℕ
+  memoryBy [] a = memoryFlowValue env start a
+  memoryBy (c ∷ cs) a =
+      memoryAfter (effectOf (registerNodeValue env start) (memoryNodeValue env start) c) (memoryNodeValue env start) (memoryFlowValue env start) a
+
+  -- every register flow, and the memory flow at every address
+  pub record Flows : Type 0 where
+    pub registers : (r : ℕ) → 1 ≤ r → r ≤ 31 → registerFlowValue env (run start calls) r ≡ registersBy trueOnes r
+    pub memory : (a : ℕ) → a < 2 ^ 64 → memoryFlowValue env (run start calls) a ≡ memoryBy trueOnes a
+
+pub record Means (start : Held) (calls : List Call) : Type 0 where
+  -- every line of the final list meets the sort rule: "an operand is an earlier line other than Next and Bad"
+  pub sorted : T (meetsSortRule (linesIn (run start calls)))
+  -- for any states and inputs
+  pub flows : (env : Env) → AtMostOne env start calls → StaysInOneWord env start calls → ZeroRegister env start calls → Flows env start calls
+
+abbrev pub Demand3 : Type 0
+Demand3 = (start : Held) (calls : List Call) → AcceptedStart start → Records calls → NoneExcluded start calls → Means start calls
