@@ -51,7 +51,7 @@ use Rattle.meaning.proofs.Words.{upper-fits}
 use Rattle.meaning.proofs.Behind as B
 use Rattle.demand.specs.Calls.{operators}
 use Rattle.demand.proofs.Views.{operators-length, numbered-operators, map-append, look-is}
-use Rattle.demand.proofs.RoleSets.{Fit, Roled, fit-node, fit-flow, FlowSorts, fit-flows, OutcomeSort, fit-outcome, outcome-node, flows-there}
+use Rattle.demand.proofs.RoleSets.{Fit, Roled, fit-node, fit-flow, FlowSorts, fit-flows, OutcomeSort, fit-outcome}
 use Rattle.demand.proofs.Passed.{flag-in}
 
 -- what holds between calls
@@ -326,13 +326,6 @@ module _ (l : Lent) (st : State) (i : Instruction) (pc : ℕ) (flag : NodeRef) w
       sorted = rw list-after (B.sorted-after before place place-is (lines .lines) (g .sorted) (parts .0));
       roles = rw (list-after, roles-after) (fit-outcome flows-set (i .rd) after (mapOutcome (resolve place (behind count)) (lines .gives .outcome)) roles-set (outcome-sort (lines .gives .outcome) (rest .0)));
     }
-
-    -- zeros and ones, and the nodes of registers and memories, are where they were
-    pub nodes-kept : (j : ℕ) → j < 39 → role (answered .lowered .state .roles) j ≡ role (st .roles) j
-    nodes-kept j h =
-        rw roles-after
-        (outcome-node flows-set (i .rd) (roles-set .size) (mapOutcome (resolve place (behind count)) (lines .gives .outcome)) j h
-        ∙ flows-there (st .roles) (mapFlows (resolve place (behind count)) (lines .gives .flows)) j (omega arith))
 
     pub values-kept : (env : Env) (p : ℕ) → p < length before → value env (operators (answered .lent .list) (answered .lowered .state .tally .lines)) p ≡ value env before p
     values-kept env p h = rw list-after (value-kept env before _ p h)

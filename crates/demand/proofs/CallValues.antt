@@ -185,12 +185,12 @@ module _ (l : Lent) (st : State) (i : Instruction) (pc : ℕ) (flag : NodeRef) (
       go : Dec (r ≡ i .rd) → Meant r
       go (yes q) = subst Meant (sym q) (own-register x v h (omega arith) (omega arith))
       go (no q) =
-          ap (λ p. value env ys (p .0) .num) (register-other set (i .rd) size (put x) r a b q) ∙ register-stays r a b ∙ sym (other-register on v (i .rd) registers r q)
+          ap (λ p. value env ys (p .0) .num) (register-other set (i .rd) (put x) r a b q) ∙ register-stays r a b ∙ sym (other-register on v (i .rd) registers r q)
   registers-given (P.register x) (setsMemory bytes) h r a b = absurd h
   registers-given (P.memory x) nothing h r a b = absurd h
   registers-given (P.memory x) (setsRd v) h r a b = absurd h
   registers-given (P.memory x) (setsMemory bytes) h r a b =
-      ap (λ p. value env ys (p .0) .num) (register-kept set (i .rd) size (put x) r a b)
+      ap (λ p. value env ys (p .0) .num) (register-kept set (i .rd) (put x) r a b)
       ∙ register-stays r a b ∙ sym (memory-register on bytes (i .rd) registers r)
   registers-given (P.branch x y) nothing h r a b = register-stays r a b ∙ sym (still-register on (i .rd) registers r)
   registers-given (P.branch x y) (setsRd v) h r a b = absurd h
@@ -204,7 +204,7 @@ module _ (l : Lent) (st : State) (i : Instruction) (pc : ℕ) (flag : NodeRef) (
   memory-given P.nothing (setsMemory bytes) h a b = absurd h
   memory-given (P.register x) nothing h a b = absurd h
   memory-given (P.register x) (setsRd v) h a b =
-      ap (λ p. value env ys (p .0) .mem a) (memory-other set (i .rd) size (put x)) ∙ memory-stays a ∙ sym (word-memory on v node memory a)
+      ap (λ p. value env ys (p .0) .mem a) (memory-other set (i .rd) (put x)) ∙ memory-stays a ∙ sym (word-memory on v node memory a)
   memory-given (P.register x) (setsMemory bytes) h a b = absurd h
   memory-given (P.memory x) nothing h a b = absurd h
   memory-given (P.memory x) (setsRd v) h a b = absurd h

@@ -3,3 +3,7 @@ pub mod RoleSets
 pub mod Passed
 pub mod Call
 pub mod CallValues
+pub mod Step
+pub mod Laws
+pub mod Run
+pub mod Demand3

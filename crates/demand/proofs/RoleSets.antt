@@ -51,9 +51,9 @@ pub record Roled (xs : List (Op ℕ)) (roles : List NodeRef) : Type 0 where
   pub size : length roles ≡ 79
   pub fit : Fit xs roles
 
-module _ (roles : List NodeRef) (size : length roles ≡ 79) (i : ℕ) (x : ℕ) where
-  pub set-here : i < 79 → role (set roles i (ref x)) i ≡ ref x
-  set-here h = getD-set-same roles i (ref x) (ref 0) (rw size h)
+module _ (roles : List NodeRef) (i x : ℕ) where
+  pub set-here : length roles ≡ 79 → i < 79 → role (set roles i (ref x)) i ≡ ref x
+  set-here size h = getD-set-same roles i (ref x) (ref 0) (rw size h)
 
   pub set-there : (j : ℕ) → (j ≡ i → ⊥) → role (set roles i (ref x)) j ≡ role roles j
   set-there j h = getD-set-other roles i j (ref x) (ref 0) h
@@ -63,8 +63,8 @@ unfolding Fit
 put {xs} {roles} r i x h new = record { size = length-set roles i (ref x) ∙ r .size; fit = λ j l. go j l (ℕ-discrete j i) }
   where
     go : (j : ℕ) → j < 79 → Dec (j ≡ i) → T (lineIs (roleSort j) xs (role (set roles i (ref x)) j .0))
-    go j l (yes e) = rw (e, set-here roles (r .size) i x h) new
-    go j l (no e) = rw (set-there roles (r .size) i x j e) (r .fit j l)
+    go j l (yes e) = rw (e, set-here roles i x (r .size) h) new
+    go j l (no e) = rw (set-there roles i x j e) (r .fit j l)
 
 -- ---- registers
 
@@ -160,30 +160,28 @@ module _ (roles : List NodeRef) (rd : ℕ) where
   fit-outcome xs (P.memory x) h g = put h 70 x (omega arith) g
   fit-outcome xs (P.branch x y) h g = h
 
-  module _ (size : length roles ≡ 79) where
-    pub outcome-node : (o : P.Outcome ℕ) (j : ℕ) → j < 39 → role (withOutcome roles rd o) j ≡ role roles j
-    outcome-node P.nothing j h = refl
-    outcome-node (P.register x) j h = by-register (λ rs. role rs j ≡ role roles j) x refl (λ g l. set-there roles size (38 + rd) x j (λ e. omega arith))
-    outcome-node (P.memory x) j h = set-there roles size 70 x j (λ e. omega arith)
-    outcome-node (P.branch x y) j h = refl
+  -- zeros and ones, and the nodes of registers and memories, stay
+  pub outcome-node : (o : P.Outcome ℕ) (j : ℕ) → j < 39 → role (withOutcome roles rd o) j ≡ role roles j
+  outcome-node P.nothing j h = refl
+  outcome-node (P.register x) j h = by-register (λ rs. role rs j ≡ role roles j) x refl (λ g l. set-there roles (38 + rd) x j (λ e. omega arith))
+  outcome-node (P.memory x) j h = set-there roles 70 x j (λ e. omega arith)
+  outcome-node (P.branch x y) j h = refl
 
-    -- the register's own flow, the others, and memory's
-    pub register-own : (x : ℕ) → 1 ≤ rd → rd ≤ 31 → registerFlow (withRegister roles rd (ref x)) rd ≡ ref x
-    register-own x h l =
-        rw (ne-eqb rd 0 (λ e. omega arith), le-ltb 31 rd l) (set-here roles size (38 + rd) x (omega arith))
+  -- the register's own flow, the others, and memory's
+  pub register-own : length roles ≡ 79 → (x : ℕ) → 1 ≤ rd → rd ≤ 31 → registerFlow (withRegister roles rd (ref x)) rd ≡ ref x
+  register-own size x h l = rw (ne-eqb rd 0 (λ e. omega arith), le-ltb 31 rd l) (set-here roles (38 + rd) x size (omega arith))
 
-    pub register-other : (x r : ℕ) → 1 ≤ r → r ≤ 31 → (r ≡ rd → ⊥) → registerFlow (withRegister roles rd (ref x)) r ≡ registerFlow roles r
-    register-other x r h l e =
-        by-register (λ rs. registerFlow rs r ≡ registerFlow roles r) x refl
-        (λ a b.
-        own-flow (set roles (38 + rd) (ref x)) r h l ∙ set-there roles size (38 + rd) x (38 + r) (λ f. e (omega arith)) ∙ sym (own-flow roles r h l))
+  pub register-other : (x r : ℕ) → 1 ≤ r → r ≤ 31 → (r ≡ rd → ⊥) → registerFlow (withRegister roles rd (ref x)) r ≡ registerFlow roles r
+  register-other x r h l e =
+      by-register (λ rs. registerFlow rs r ≡ registerFlow roles r) x refl
+      (λ a b. own-flow (set roles (38 + rd) (ref x)) r h l ∙ set-there roles (38 + rd) x (38 + r) (λ f. e (omega arith)) ∙ sym (own-flow roles r h l))
 
-    pub memory-own : (x : ℕ) → role (set roles 70 (ref x)) 70 ≡ ref x
-    memory-own x = set-here roles size 70 x (omega arith)
+  pub memory-own : length roles ≡ 79 → (x : ℕ) → role (set roles 70 (ref x)) 70 ≡ ref x
+  memory-own size x = set-here roles 70 x size (omega arith)
 
-    pub memory-other : (x : ℕ) → role (withRegister roles rd (ref x)) 70 ≡ role roles 70
-    memory-other x = by-register (λ rs. role rs 70 ≡ role roles 70) x refl (λ a b. set-there roles size (38 + rd) x 70 (λ e. omega arith))
+  pub memory-other : (x : ℕ) → role (withRegister roles rd (ref x)) 70 ≡ role roles 70
+  memory-other x = by-register (λ rs. role rs 70 ≡ role roles 70) x refl (λ a b. set-there roles (38 + rd) x 70 (λ e. omega arith))
 
-    -- a store sets no register's flow
-    pub register-kept : (x r : ℕ) → 1 ≤ r → r ≤ 31 → registerFlow (set roles 70 (ref x)) r ≡ registerFlow roles r
-    register-kept x r h l = own-flow (set roles 70 (ref x)) r h l ∙ set-there roles size 70 x (38 + r) (λ e. omega arith) ∙ sym (own-flow roles r h l)
+  -- a store sets no register's flow
+  pub register-kept : (x r : ℕ) → 1 ≤ r → r ≤ 31 → registerFlow (set roles 70 (ref x)) r ≡ registerFlow roles r
+  register-kept x r h l = own-flow (set roles 70 (ref x)) r h l ∙ set-there roles 70 x (38 + r) (λ e. omega arith) ∙ sym (own-flow roles r h l)

@@ -95,23 +95,12 @@ InOneWordEach registers (c ∷ cs) = InOneWord (kindOf c) (registers (c .instruc
 
 -- ---- the claim
 
-module _ (env : Env) (start : Held) (calls : List Call) where
-  -- the calls with a true flag, the values being those of the whole list
-  abbrev pub trueOnes : List Request
-  trueOnes = trueCalls (value env (linesIn (run start calls))) start calls
-
-  -- at most one accepted call that needs a flag has it true
-  abbrev pub AtMostOne : Type 0
-  AtMostOne = length trueOnes ≤ 1
-
-  abbrev pub StaysInOneWord : Type 0
-  StaysInOneWord = InOneWordEach (registerNodeValue env start) trueOnes
-
+module _ (env : Env) (start : Held) where
   -- x0's node is 0 (the given zeros and ones may have any value: no register's or memory's flow depends on them)
   abbrev pub ZeroRegister : Type 0
   ZeroRegister = registerNodeValue env start 0 ≡ 0
 
-  -- the flows once the one call is done, if there is one; "a starting value is that of the node given at the start"
+  -- the flows once the one call with a true flag is done, if there is one; "a starting value is that of the node given at the start"
   abbrev pub registersBy : List Request → ℕ → ℕ
   registersBy [] r = registerFlowValue env start r
   registersBy (c ∷ cs) r =
@@ -122,16 +111,28 @@ module _ (env : Env) (start : Held) (calls : List Call) where
   memoryBy (c ∷ cs) a =
       memoryAfter (effectOf (registerNodeValue env start) (memoryNodeValue env start) c) (memoryNodeValue env start) (memoryFlowValue env start) a
 
+module _ (env : Env) (start : Held) (calls : List Call) where
+  -- the calls with a true flag, the values being those of the final list
+  abbrev pub trueOnes : List Request
+  trueOnes = trueCalls (value env (linesIn (run start calls))) start calls
+
+  -- at most one accepted call that needs a flag has it true
+  abbrev pub AtMostOne : Type 0
+  AtMostOne = length trueOnes ≤ 1
+
+  abbrev pub StaysInOneWord : Type 0
+  StaysInOneWord = InOneWordEach (registerNodeValue env start) trueOnes
+
   -- every register flow, and the memory flow at every address
   pub record Flows : Type 0 where
-    pub registers : (r : ℕ) → 1 ≤ r → r ≤ 31 → registerFlowValue env (run start calls) r ≡ registersBy trueOnes r
-    pub memory : (a : ℕ) → a < 2 ^ 64 → memoryFlowValue env (run start calls) a ≡ memoryBy trueOnes a
+    pub registers : (r : ℕ) → 1 ≤ r → r ≤ 31 → registerFlowValue env (run start calls) r ≡ registersBy env start trueOnes r
+    pub memory : (a : ℕ) → a < 2 ^ 64 → memoryFlowValue env (run start calls) a ≡ memoryBy env start trueOnes a
 
 pub record Means (start : Held) (calls : List Call) : Type 0 where
   -- every line of the final list meets the sort rule: "an operand is an earlier line other than Next and Bad"
   pub sorted : T (meetsSortRule (linesIn (run start calls)))
   -- for any states and inputs
-  pub flows : (env : Env) → AtMostOne env start calls → StaysInOneWord env start calls → ZeroRegister env start calls → Flows env start calls
+  pub flows : (env : Env) → AtMostOne env start calls → StaysInOneWord env start calls → ZeroRegister env start → Flows env start calls
 
 abbrev pub Demand3 : Type 0
 Demand3 = (start : Held) (calls : List Call) → AcceptedStart start → Records calls → NoneExcluded start calls → Means start calls

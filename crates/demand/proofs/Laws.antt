@@ -1,0 +1,56 @@
+-- What calls leave as it was: a refused one everything, and every one the given nodes. Assumes nothing.
+use Prim.Native.Nat.{ℕ, _+_, _≤_, _<_}
+use mathlib.Core.Path.{_≡_, refl, sym, _∙_, ap, subst}
+use mathlib.Core.Bool.{Bool, true, false, cond, not}
+use mathlib.Core.List.{List, [], _∷_}
+use native.Mathlib.Decide.{ℕ-discrete}
+use native.Mathlib.Omega.{arith}
+use borrow.Author.Tests.{eq-eqb, ltb-false}
+use lib.Dec.{T, eqb, ltb}
+use Rattle.btor2.specs.declared.NodeRef.{NodeRef}
+use Rattle.program.specs.Prog.{exec}
+use Rattle.builder.specs.Append.{at, append}
+use Rattle.riscv.specs.declared.Instruction.{Instruction}
+use Rattle.roles.specs.Roles.{role, registerNode, withFlows}
+use Rattle.lowering_refusals.specs.declared.State.{State}
+use Rattle.lowering_refusals.specs.Refusal.{refusalOf}
+use Rattle.lowering.specs.Lowering.{Lent, Answer, roomIn, programOf, settled, lowering}
+use Rattle.lowering_laws.proofs.OneCall.{when-refused}
+use Rattle.demand.specs.Calls.{Held, Request, Call, lower, lentFor, stateFor, answerTo, accepted, step, run}
+use Rattle.demand.specs.Laws.{RefusedLeaves, NodesKept}
+use Rattle.demand.proofs.RoleSets.{outcome-node, flows-there}
+use Rattle.demand.proofs.Step.{number, accepted-is, by-step}
+
+pub refused-leaves : RefusedLeaves
+unfolding answerTo
+refused-leaves h c q =
+    let e = when-refused (lentFor h c) (stateFor h c) (c .instruction) (c .address) (c .flag) (λ z. subst (λ t. T (not t)) (accepted-is h c ∙ eq-eqb (number h c) 0 z) q) in
+    (ap (λ (a : Answer). a .lent) e, ap (λ (a : Answer). a .lowered .state) e)
+
+-- an accepted call sets flows alone
+node-lowering : (l : Lent) (st : State) (i : Instruction) (pc : ℕ) (flag : NodeRef) → refusalOf (l .list) (roomIn l) st i pc (flag .0) ≡ 0
+    → (j : ℕ) → j < 39 → role (lowering l st i pc flag .lowered .state .roles) j ≡ role (st .roles) j
+unfolding lowering settled
+node-lowering l st i pc flag e j h =
+    let r = exec append (at (l .list) (st .tally)) (programOf st i pc flag) in
+    rw e (outcome-node (withFlows (st .roles) (r .value .flows)) (i .rd) (r .value .outcome) j h ∙ flows-there (st .roles) (r .value .flows) j (omega arith))
+
+pub node-step : (h : Held) (c : Call) (j : ℕ) → j < 39 → role (step h c .state .roles) j ≡ role (h .state .roles) j
+unfolding step answerTo stateFor
+node-step h (lower c) j l =
+    by-step h c (λ b x. role (x .state .roles) j ≡ role (h .state .roles) j)
+    (λ q. node-lowering (lentFor h c) (stateFor h c) (c .instruction) (c .address) (c .flag) q j l)
+    refl
+
+pub nodes-kept : NodesKept
+unfolding run
+nodes-kept h [] j l = refl
+nodes-kept h (c ∷ cs) j l = nodes-kept (step h c) cs j l ∙ node-step h c j l
+
+-- so the node of a register is
+pub register-node-step : (h : Held) (c : Call) (r : ℕ) → registerNode (step h c .state .roles) r ≡ registerNode (h .state .roles) r
+register-node-step h c r = go (ltb 31 r) refl
+  where
+    go : (t : Bool) → ltb 31 r ≡ t → cond t (role (step h c .state .roles) 7) (role (step h c .state .roles) (7 + r)) ≡ cond t (role (h .state .roles) 7) (role (h .state .roles) (7 + r))
+    go true e = node-step h c 7 (omega arith)
+    go false e = node-step h c (7 + r) (omega (arith, ltb-false 31 r e))
