@@ -7,3 +7,4 @@ pub mod Step
 pub mod Laws
 pub mod Run
 pub mod Demand3
+mod Example
