@@ -1,32 +1,32 @@
 -- One accepted call, of a kind that is not excluded: the list meets the sort rule, every role is a value line of its sort, and its flows are
 -- the old ones with the manual's effect where its flag is true. Assumes nothing.
-use Prim.Native.Nat.{ℕ, _+_, _*_, _/_, _^_, _≤_, _<_}
+use Prim.Native.Nat.{ℕ, _+_, _*_, _^_, _≤_, _<_}
 use mathlib.Core.Path.{_≡_, refl, sym, _∙_, ap, subst}
 use mathlib.Core.Bool.{Bool, true, false, cond, not, _&&_, _||_}
 use mathlib.Core.List.{List, [], _∷_, _++_, map}
 use native.Mathlib.Nat.{add-zero, mod-lt}
 use native.Mathlib.Omega.{arith}
-use borrow.Author.Tests.{eqb-true, eq-eqb, ltb-false}
+use borrow.Author.Tests.{ltb-false}
 use lib.Dec.{T, eqb, ltb}
-use lib.ListN.{length, getD}
+use lib.ListN.{length}
 use lib.Pow.{pow-pos}
 use Rattle.btor2.specs.declared.NodeRef.{NodeRef}
 use Rattle.btor2.specs.declared.Name.{Name}
 use Rattle.btor2.specs.declared.NodeType.{NodeType}
 use Rattle.btor2.specs.declared.NodeType.the-variants.{Bit, Word, Memory}
-use Rattle.btor2.specs.Op.{Op, mapOp}
+use Rattle.btor2.specs.Op.{Op}
 use Rattle.btor2.specs.SortRule.{Judged, allRight, meetsSortRule, lineIs}
 use Rattle.btor2.specs.Value.{Env, value}
 use Rattle.btor2.proofs.SortRule.{both, line-kept}
 use Rattle.btor2.proofs.Value.{value-kept}
 use Rattle.btor2_list.specs.Record.{stride}
 use Rattle.btor2_list.specs.View.{view}
-use Rattle.program.specs.Prog.{Run, exec}
-use Rattle.builder.specs.Append.{Store, at, append}
-use Rattle.instruction_class.specs.Class.{class, lineCount, needsFlag}
+use Rattle.program.specs.Prog.{exec}
+use Rattle.builder.specs.Append.{at, append}
+use Rattle.instruction_class.specs.Class.{class, needsFlag}
 use Rattle.models.specs.Places as P
 use Rattle.models.specs.Code.{operandsOf, flowsOf}
-use Rattle.models.specs.Model.{upper, constantOf, translate}
+use Rattle.models.specs.Model.{upper, constantOf}
 use Rattle.riscv.specs.declared.Instruction.{Instruction}
 use Rattle.riscv.specs.Kind.{Kind, Lui, Auipc, Slliw, Srliw, Srai, Sraiw, Jal, Jalr, Mul, Mulw, Div, Divw, kindAt, number, oneOf}
 use Rattle.roles.specs.Roles.{roleSort, role, registerNode, registerFlow, operandsFor, flowsIn, withFlows, withOutcome}
@@ -39,13 +39,13 @@ use Rattle.lowering_laws.specs.Lines.{linesOf, answerOf, behind, numbered}
 use Rattle.lowering_laws.specs.Accepted.{growth, Accepted}
 use Rattle.lowering_laws.proofs.EachKind.{Reading, reading, reads}
 use Rattle.lowering_laws.proofs.Growth.{grows}
-use Rattle.lowering_laws.proofs.Laid.{Room, Laid, laid}
+use Rattle.lowering_laws.proofs.Laid.{Room, laid}
 use Rattle.lowering_laws.proofs.Elsewhere.{needs-lines}
 use Rattle.lowering_laws.proofs.OneCall.{when-accepted}
 use Rattle.lowering_laws.proofs.Template.{Role, flag as flagRole, rs1, rs2, zero, one, trueBit, memoryNode, counterNode, maximumNode, counterFlow, maximumFlow, divisionFlow, remainderFlow, accessFlow, additionFlow, multiplicationFlow, ecallFlow, registerFlow as registerRole, memoryFlow as memoryRole, Ref, resolve, mapFlows, mapOutcome, mapReading, template, same}
 use Rattle.meaning.specs.Access.{excluded}
 use Rattle.meaning.proofs.Walk.{placed}
-use Rattle.meaning.proofs.Roles.{sortOf, sorts, has, quiet, outcomeHas, flowsHave, fine}
+use Rattle.meaning.proofs.Roles.{sortOf, has, quiet, outcomeHas, flowsHave, fine}
 use Rattle.meaning.proofs.KindSorts.{kind-sorts, withFlag, unflagged}
 use Rattle.meaning.proofs.Words.{upper-fits}
 use Rattle.meaning.proofs.Behind as B

@@ -1,9 +1,9 @@
 -- One accepted call: each register's flow and memory's is the old one with the manual's effect, where the call needs its flag and that is
 -- true, and every line before it keeps its value. Assumes nothing.
-use Prim.Native.Nat.{ℕ, _+_, _*_, _^_, _≤_, _<_}
+use Prim.Native.Nat.{ℕ, _+_, _^_, _≤_, _<_}
 use mathlib.Core.Path.{_≡_, refl, sym, _∙_, ap, subst}
 use mathlib.Core.Bool.{Bool, true, false, cond, not, _&&_, _||_}
-use mathlib.Core.List.{List, [], _∷_, _++_}
+use mathlib.Core.List.{List}
 use native.Mathlib.Decide.{ℕ-discrete}
 use native.Mathlib.Omega.{arith}
 use borrow.Author.Tests.{eqb-true, eq-eqb, ne-eqb}
@@ -13,12 +13,10 @@ use Rattle.bitvec.specs.Smtlib as Smt
 use Rattle.btor2.specs.declared.NodeRef.{NodeRef}
 use Rattle.btor2.specs.declared.NodeType.the-variants.{Word, Memory}
 use Rattle.btor2.specs.Op.{Op}
-use Rattle.btor2.specs.SortRule.{lineIs}
-use Rattle.btor2.specs.Value.{Value, number, Env, value}
+use Rattle.btor2.specs.Value.{Value, Env, value}
 use Rattle.btor2.proofs.Value.{value-kept}
 use Rattle.btor2.proofs.Range.{value-fits}
 use Rattle.models.specs.Places as P
-use Rattle.models.specs.Model.{constantOf}
 use Rattle.riscv.specs.declared.Instruction.{Instruction}
 use Rattle.riscv.specs.Manual.{Effect, nothing, setsRd, setsMemory, manual}
 use Rattle.riscv.specs.Memory.{bytesOf, cellsWith}
@@ -27,15 +25,15 @@ use Rattle.lowering_refusals.specs.declared.State.{State}
 use Rattle.lowering_refusals.specs.Refusal.{refusalOf}
 use Rattle.lowering.specs.Lowering.{Lent, Answer, roomIn}
 use Rattle.lowering_laws.specs.Lines.{behind}
-use Rattle.lowering_laws.proofs.Template.{Role, flag as flagRole, rs1, rs2, memoryNode, registerFlow as registerRole, memoryFlow as memoryRole, Ref, resolve, mapFlows, mapOutcome}
+use Rattle.lowering_laws.proofs.Template.{Role, flag as flagRole, rs1, rs2, registerFlow as registerRole, memoryFlow as memoryRole, Ref, resolve, mapOutcome}
 use Rattle.meaning.specs.Access.{InOneWord, excluded}
 use Rattle.meaning.proofs.Roles.{quiet}
 use Rattle.meaning.proofs.Agrees.{Flowed, vals, valAt, outcome, Agrees}
-use Rattle.meaning.proofs.KindValues.{Known, kind-means}
+use Rattle.meaning.proofs.KindValues.{kind-means}
 use Rattle.meaning.proofs.Behind as B
 use Rattle.demand.specs.Calls.{operators}
 use Rattle.demand.specs.Demand3.{registerAfter, memoryAfter}
-use Rattle.demand.proofs.RoleSets.{Fit, fit-node, fit-flow, own-flow, flows-there, register-own, register-other, register-kept, memory-own, memory-other, outcome-node}
+use Rattle.demand.proofs.RoleSets.{Fit, fit-node, fit-flow, own-flow, flows-there, register-own, register-other, register-kept, memory-own, memory-other}
 use Rattle.demand.proofs.Passed.{in-format, record-in}
 use Rattle.demand.proofs.Call as C
 use Rattle.demand.proofs.Call.{Good}

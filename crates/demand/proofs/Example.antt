@@ -3,11 +3,10 @@
 -- nothing.
 use Prim.Native.Nat.{ℕ, _+_, _≤_}
 use mathlib.Core.Path.{_≡_, refl, sym, ap, subst, _∙_}
-use mathlib.Core.Bool.{Bool, true, false, cond}
+use mathlib.Core.Bool.{cond}
 use mathlib.Core.List.{List, [], _∷_, _++_, map}
-use native.Mathlib.Omega.{arith}
-use lib.Dec.{T, eqb, ltb, lit≤, lit<}
-use lib.ListN.{length, getD, replicate}
+use lib.Dec.{eqb, lit≤, lit<}
+use lib.ListN.{length, replicate}
 use Rattle.btor2.specs.declared.NodeRef.{NodeRef}
 use Rattle.btor2.specs.declared.NodeType.the-variants.{Bit, Word, Memory}
 use Rattle.btor2.specs.Op.{Op, const, state, mapOp, carried}
@@ -17,10 +16,8 @@ use Rattle.btor2.specs.Value.{Env, number, binary, evalOp, values, value}
 use Rattle.btor2_list.specs.Record.{words, lineAt}
 use Rattle.btor2_list.specs.Node.{lineOf, opOf, noName}
 use Rattle.btor2_list.specs.View.{view}
-use Rattle.riscv.specs.declared.Instruction.{Instruction}
 use Rattle.riscv.specs.Kind as K
 use Rattle.roles.specs.Roles.{ref, rolesFit, operandsFor, flowsIn, withFlows}
-use Rattle.lowering_refusals.specs.declared.State.{State}
 use Rattle.bitvec.specs.Smtlib as Smt
 use Rattle.bitvec.specs.Smtlib.{bit, negative, bvadd, bvsub, bvneg, bvand, bvlshr, bvult, bvcomp}
 use Rattle.program.specs.Prog.{_>>=_}

@@ -1,12 +1,11 @@
 -- What calls leave as it was: a refused one everything, and every one the given nodes. Assumes nothing.
-use Prim.Native.Nat.{ℕ, _+_, _≤_, _<_}
-use mathlib.Core.Path.{_≡_, refl, sym, _∙_, ap, subst}
+use Prim.Native.Nat.{ℕ, _+_, _<_}
+use mathlib.Core.Path.{_≡_, refl, _∙_, ap, subst}
 use mathlib.Core.Bool.{Bool, true, false, cond, not}
-use mathlib.Core.List.{List, [], _∷_}
-use native.Mathlib.Decide.{ℕ-discrete}
+use mathlib.Core.List.{[], _∷_}
 use native.Mathlib.Omega.{arith}
 use borrow.Author.Tests.{eq-eqb, ltb-false}
-use lib.Dec.{T, eqb, ltb}
+use lib.Dec.{T, ltb}
 use Rattle.btor2.specs.declared.NodeRef.{NodeRef}
 use Rattle.program.specs.Prog.{exec}
 use Rattle.builder.specs.Append.{at, append}
@@ -16,7 +15,7 @@ use Rattle.lowering_refusals.specs.declared.State.{State}
 use Rattle.lowering_refusals.specs.Refusal.{refusalOf}
 use Rattle.lowering.specs.Lowering.{Lent, Answer, roomIn, programOf, settled, lowering}
 use Rattle.lowering_laws.proofs.OneCall.{when-refused}
-use Rattle.demand.specs.Calls.{Held, Request, Call, lower, lentFor, stateFor, answerTo, accepted, step, run}
+use Rattle.demand.specs.Calls.{Held, Call, lower, lentFor, stateFor, answerTo, step, run}
 use Rattle.demand.specs.Laws.{RefusedLeaves, NodesKept}
 use Rattle.demand.proofs.RoleSets.{outcome-node, flows-there}
 use Rattle.demand.proofs.Step.{number, accepted-is, by-step}

@@ -1,15 +1,14 @@
 -- One call of a list, accepted or refused, whatever the host lends with it. Assumes nothing.
-use Prim.Native.Nat.{ℕ, _+_, _*_, _^_, _≤_, _<_}
+use Prim.Native.Nat.{ℕ, _*_, _^_, _≤_, _<_}
 use mathlib.Core.Path.{_≡_, refl, sym, _∙_, ap, subst}
 use mathlib.Core.Bool.{Bool, true, false, cond, not, _&&_}
-use mathlib.Core.List.{List, [], _∷_, _++_}
+use mathlib.Core.List.{List}
 use native.Mathlib.Decide.{ℕ-discrete}
 use native.Mathlib.Omega.{arith}
 use borrow.Author.Tests.{eq-eqb, ne-eqb}
 use lib.Dec.{T, eqb}
 use lib.ListN.{length}
-use Rattle.btor2.specs.declared.NodeRef.{NodeRef}
-use Rattle.btor2.specs.declared.NodeType.the-variants.{Bit, Word, Memory}
+use Rattle.btor2.specs.declared.NodeType.the-variants.{Bit}
 use Rattle.btor2.specs.Op.{Op}
 use Rattle.btor2.specs.SortRule.{meetsSortRule}
 use Rattle.btor2.specs.Value.{Value, Env, value}
@@ -17,17 +16,15 @@ use Rattle.btor2_list.specs.Record.{stride}
 use Rattle.riscv.specs.Manual.{Effect, nothing, manual}
 use Rattle.riscv.specs.Memory.{bytesOf}
 use Rattle.roles.specs.Roles.{role, registerNode, registerFlow}
-use Rattle.lowering_refusals.specs.declared.State.{State}
 use Rattle.lowering_refusals.specs.Refusal.{refusalOf}
-use Rattle.lowering.specs.Lowering.{Lent, Answer, roomIn, refused, settled, programOf, lowering}
-use Rattle.lowering_laws.specs.Accepted.{growth}
+use Rattle.lowering.specs.Lowering.{Answer, roomIn, settled, lowering}
 use Rattle.lowering_laws.proofs.OneCall.{when-refused, when-accepted}
 use Rattle.meaning.specs.Access.{InOneWord, excluded}
 use Rattle.meaning.proofs.Behind.{inside}
-use Rattle.demand.specs.Calls.{Held, operators, linesIn, Request, Call, lower, lentFor, stateFor, answerTo, accepted, step}
+use Rattle.demand.specs.Calls.{Held, operators, linesIn, Request, lower, lentFor, stateFor, answerTo, accepted, step}
 use Rattle.demand.specs.Demand3.{kindOf, needsItsFlag, isTrue, registerAfter, memoryAfter, effectOf, registerNodeValue, memoryNodeValue, registerFlowValue, memoryFlowValue}
 use Rattle.demand.proofs.Views.{operators-length, operators-spare, spare-long, look-is}
-use Rattle.demand.proofs.RoleSets.{Roled, Fit}
+use Rattle.demand.proofs.RoleSets.{Roled}
 use Rattle.demand.proofs.Passed.{flag-in}
 use Rattle.demand.proofs.Call as C
 use Rattle.demand.proofs.Call.{Good}

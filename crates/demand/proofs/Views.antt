@@ -2,9 +2,8 @@
 use Prim.Native.Nat.{ℕ, zero, suc, _+_, _*_, _≤_, _<_}
 use native.Mathlib.Omega.{arith}
 use mathlib.Core.Path.{_≡_, refl, sym, _∙_, ap, ap₂, subst}
-use mathlib.Core.Bool.{Bool, true, false, _&&_}
 use mathlib.Core.List.{List, [], _∷_, _++_, map}
-use lib.Dec.{T, eqb, eqb→eq, eqb-refl, lit<}
+use lib.Dec.{T, eqb, eqb-refl, lit<}
 use lib.ListN.{length, getD, take, length-append, length-map, List·getD-map, List·getD-append}
 use lib.Seq.{length-take-le, getD-take}
 use Rattle.bitvec.proofs.Base.{by-le}
@@ -15,7 +14,7 @@ use Rattle.btor2.specs.declared.MaybeSort.the-variants.{Sort, NoSort}
 use Rattle.btor2.specs.Sort.{sortNumber}
 use Rattle.btor2.specs.Op.{Op, unknown, carried}
 use Rattle.btor2.specs.SortRule.{hasSort, lineIs}
-use Rattle.btor2_list.specs.Record.{stride, lineAt}
+use Rattle.btor2_list.specs.Record.{stride}
 use Rattle.btor2_list.specs.Node.{Node, node, nodeOf}
 use Rattle.btor2_list.specs.View.{view}
 use Rattle.btor2_list.specs.Look.{seenAs, lookAt}

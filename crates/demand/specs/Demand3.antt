@@ -1,5 +1,5 @@
 -- Demand 3, whole (document 01, "Start, storage, evaluation"). The quoted words are document 01's, and each hypothesis has a name.
-use Prim.Native.Nat.{ℕ, _+_, _*_, _^_, _≤_, _<_}
+use Prim.Native.Nat.{ℕ, _*_, _^_, _≤_, _<_}
 use mathlib.Core.Path.{_≡_}
 use mathlib.Core.Bool.{Bool, cond, _&&_, not}
 use mathlib.Core.List.{List, [], _∷_}

@@ -11,7 +11,7 @@ use Rattle.btor2.specs.SortRule.{allRight}
 use Rattle.instruction_class.specs.Class.{class, needsFlag}
 use Rattle.riscv.specs.Kind.{Kind, Lui, Auipc, Lb, Lh, Lw, Ld, Lbu, Lhu, Sb, Sh, Sw, Sd, Addi, Sltiu, Xori, Ori, Andi, Slli, Srli, Srai, Addiw, Slliw, Srliw, Sraiw, Add, Sub, Sll, Sltu, Srl, Sra, Or, And, Mul, Div, Divu, Remu, Addw, Divw, Subw, Sllw, Mulw, Beq, Bne, Blt, Bge, Bltu, Bgeu, Jal, Jalr, Ecall, oneOf}
 use Rattle.models.specs.Places.{Operands, Flows}
-use Rattle.lowering_laws.proofs.EachKind.{Reading, reading}
+use Rattle.lowering_laws.proofs.EachKind.{reading}
 use Rattle.lowering_laws.proofs.Template.{Role, template}
 use Rattle.meaning.proofs.Roles.{fine}
 

@@ -1,13 +1,12 @@
 -- Each kind but Mul, Mulw, Div and Divw: the line that its model gives for rd or memory has the manual's value. Assumes nothing.
-use Prim.Native.Nat.{ℕ, _+_, _-_, _*_, _/_, _%_, _^_, _≤_, _<_}
+use Prim.Native.Nat.{ℕ, _+_, _-_, _*_, _%_, _^_, _≤_, _<_}
 use native.Mathlib.Nat.{add-comm}
 use native.Mathlib.Omega.{arith}
-use mathlib.Core.Path.{_≡_, refl, sym, _∙_, ap}
-use mathlib.Core.Bool.{Bool, true, false, _&&_, not}
-use mathlib.Core.List.{[], _∷_}
+use mathlib.Core.Path.{_≡_, refl, _∙_, ap}
+use mathlib.Core.Bool.{Bool, true, false, not}
 use lib.Dec.{T, eqb}
-use borrow.Author.Tests.{eqb-true, ltb-false, eqb-false}
-use Rattle.bitvec.specs.Smtlib.{bvand, bvadd, bvsub, bvshl, bvlshr}
+use borrow.Author.Tests.{ltb-false, eqb-false}
+use Rattle.bitvec.specs.Smtlib.{bvand}
 use Rattle.bitvec.specs.Smtlib as Smt
 use Rattle.bitvec.specs.TwosComplement.{sext}
 use Rattle.bitvec.proofs.Base.{sub-is}
@@ -20,7 +19,7 @@ use Rattle.btor2.specs.Value.{Value, number, array, store, Env}
 use Rattle.riscv.specs.Kind.{Kind, Lui, Auipc, Lb, Lh, Lw, Ld, Lbu, Lhu, Sb, Sh, Sw, Sd, Addi, Sltiu, Xori, Ori, Andi, Slli, Srli, Srai, Addiw, Slliw, Srliw, Sraiw, Add, Sub, Sll, Sltu, Srl, Sra, Or, And, Mul, Div, Divu, Remu, Addw, Divw, Subw, Sllw, Mulw, Beq, Bne, Blt, Bge, Bltu, Bgeu, Jal, Jalr, Ecall}
 use Rattle.riscv.specs.Format.{format, immediateOut}
 use Rattle.riscv.specs.Refusal.{amountOut, zeroSrliw}
-use Rattle.riscv.specs.Manual.{manual, setsRd, setsMemory, loadAt, storeAt}
+use Rattle.riscv.specs.Manual.{manual, loadAt, storeAt}
 use Rattle.riscv.specs.Memory.{bytesOf, cellsWith}
 use Rattle.models.specs.Model.{constantOf}
 use Rattle.lowering_refusals.proofs.Within.{neither}

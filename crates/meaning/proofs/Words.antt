@@ -8,7 +8,7 @@ use mathlib.Core.Bool.{Bool, true, false, cond}
 use lib.Dec.{eqb, ltb, lit≤}
 use lib.Bits.{bitAnd}
 use borrow.Author.Tests.{eqb-true, eq-eqb, ne-eqb, lt-ltb, le-ltb}
-use Rattle.bitvec.specs.Smtlib.{bit, bvnot, bvand, bvadd, bvsub, bvmul, bvudiv, bvurem, bvshl, bvlshr, bvcomp}
+use Rattle.bitvec.specs.Smtlib.{bit, bvand, bvadd, bvsub, bvudiv, bvurem, bvshl, bvlshr, bvcomp}
 use Rattle.bitvec.specs.Smtlib as Smt
 use Rattle.bitvec.specs.TwosComplement.{sext, sra}
 use Rattle.bitvec.specs.Bytes.{byteOf, load}
