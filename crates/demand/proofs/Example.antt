@@ -1,6 +1,6 @@
--- A start and calls that meet every hypothesis, so that demand 3 speaks of something: Lui x5, 1 under a true flag, Srliw by 0, which is
--- refused, Bltu, which needs no flag, and Add under a false one. The flow of x5 is 4096 in the end, and that of x6 what it was. Assumes
--- nothing.
+-- A start and calls that meet every hypothesis, so that demand 3 speaks of something: Lui x5, 1 under a true flag; Srliw by 0, and a Lui
+-- with less room than the lines in use, both refused; Bltu, which needs no flag; Add under a false one. The flow of x5 is 4096 in the end,
+-- and that of x6 what it was. Assumes nothing.
 use Prim.Native.Nat.{ℕ, _+_, _≤_}
 use mathlib.Core.Path.{_≡_, refl, sym, ap, subst, _∙_}
 use mathlib.Core.Bool.{cond}
@@ -28,7 +28,7 @@ use Rattle.models.specs.Model.{upper, constantOf, regFlowIte, unimplemented, tr
 use Rattle.riscv.specs.Refusal.{refusal}
 use Rattle.lowering_refusals.specs.Refusal.{roomOf, countsOut, flagOut, roomOut, linesAndEdges, refusalOf}
 use Rattle.lowering.specs.Lowering.{programOf, settled, countsAfter, lowering}
-use Rattle.demand.specs.Calls.{Held, operators, Request, Call, lower, lentFor, stateFor, answerTo, accepted, step, run}
+use Rattle.demand.specs.Calls.{Held, operators, Request, Call, lower, inFront, lentFor, stateFor, answerTo, accepted, step, run}
 use Rattle.riscv.specs.Manual.{manual}
 use Rattle.bitvec.specs.TwosComplement.{sext}
 use Rattle.demand.specs.Demand3.{AcceptedStart, registerNodeValue, registerFlowValue, trueCalls, effectOf, InOneWordEach, registersBy, trueOnes, Flows}
@@ -59,14 +59,14 @@ accepted-start : AcceptedStart start
 unfolding start stored start-lines given operators view lineAt opOf meetsSortRule judged walk judge rule isStateOp carried mapOp allRight rolesFit
 accepted-start = record { most = lit≤ tt; identifier = lit≤ tt; stored = lit≤ tt; sorted = tt; given = refl; roles = tt }
 
--- room for 20 lines and 4 edges
-ask : ℕ → ℕ → ℕ → ℕ → ℕ → ℕ → ℕ → Request
-ask address kind rd rs1 rs2 imm flag = record {
+-- room for 4 edges, and for some words of the list
+ask : ℕ → ℕ → ℕ → ℕ → ℕ → ℕ → ℕ → ℕ → Request
+ask room address kind rd rs1 rs2 imm flag = record {
   instruction = record { kind = kind; rd = rd; rs1 = rs1; rs2 = rs2; imm = imm };
   address = address;
   flag = ref flag;
-  spareList = replicate 200 7;
-  spareNames = [];
+  list = replicate room 7;
+  names = [];
   edges = replicate 16 7;
   dispatches = [];
   bads = [];
@@ -76,29 +76,35 @@ ask address kind rd rs1 rs2 imm flag = record {
 }
 
 lui : Request
-lui = ask 65536 (K.number K.Lui) 5 0 0 1 6
+lui = ask 300 65536 (K.number K.Lui) 5 0 0 1 6
 
 calls : List Call
-calls = lower lui ∷ lower (ask 65540 (K.number K.Srliw) 5 5 0 0 6) ∷ lower (ask 65540 (K.number K.Bltu) 0 5 6 4 999) ∷ lower (ask 65544 (K.number K.Add) 6 5 5 0 0) ∷ []
+calls =
+    lower lui
+    ∷ lower (ask 300 65540 (K.number K.Srliw) 5 5 0 0 6)
+    ∷ lower (ask 60 65540 (K.number K.Lui) 7 0 0 1 6)
+    ∷ lower (ask 300 65540 (K.number K.Bltu) 0 5 6 4 999)
+    ∷ lower (ask 300 65544 (K.number K.Add) 6 5 5 0 0)
+    ∷ []
 
 -- the flag is 1, and every register but x0 is 9
 states : Env
 states p = cond (eqb p 6) (number 1) (number 9)
 
 the-true-one : trueOnes states start calls ≡ lui ∷ []
-unfolding start stored start-lines given operators view lineAt opOf walk mapOp carried rolesFit ask lui calls states trueCalls accepted answerTo lentFor stateFor step run lowering refusalOf roomOf countsOut refusal flagOut roomOut linesAndEdges settled programOf countsAfter appendLine constantOf operandsFor flowsIn withFlows translate regFlowIte unimplemented _>>=_ newSra newSext32 newSextBy newNeq checkAdditionOverflow constant summed modelBranch evalOp binary values value Smt.ite bvadd bvsub bvneg bvlshr bvult bvcomp bvand bit upper
+unfolding start stored start-lines given operators view lineAt opOf walk mapOp carried rolesFit ask lui calls states trueCalls accepted answerTo lentFor inFront stateFor step run lowering refusalOf roomOf countsOut refusal flagOut roomOut linesAndEdges settled programOf countsAfter appendLine constantOf operandsFor flowsIn withFlows translate regFlowIte unimplemented _>>=_ newSra newSext32 newSextBy newNeq checkAdditionOverflow constant summed modelBranch evalOp binary values value Smt.ite bvadd bvsub bvneg bvlshr bvult bvcomp bvand bit upper
 the-true-one = refl
 
--- 7 lines, 2 of Lui, none of the refused call, 2 of Bltu and 11 of Add
+-- 7 lines, 2 of the first Lui, 2 of Bltu and 11 of Add
 counted : run start calls .state .tally .lines ≡ 22
-unfolding start stored start-lines given operators view lineAt opOf walk mapOp carried rolesFit ask lui calls states trueCalls accepted answerTo lentFor stateFor step run lowering refusalOf roomOf countsOut refusal flagOut roomOut linesAndEdges settled programOf countsAfter appendLine constantOf operandsFor flowsIn withFlows translate regFlowIte unimplemented _>>=_ newSra newSext32 newSextBy newNeq checkAdditionOverflow constant summed modelBranch evalOp binary values value Smt.ite bvadd bvsub bvneg bvlshr bvult bvcomp bvand bit upper
+unfolding start stored start-lines given operators view lineAt opOf walk mapOp carried rolesFit ask lui calls states trueCalls accepted answerTo lentFor inFront stateFor step run lowering refusalOf roomOf countsOut refusal flagOut roomOut linesAndEdges settled programOf countsAfter appendLine constantOf operandsFor flowsIn withFlows translate regFlowIte unimplemented _>>=_ newSra newSext32 newSextBy newNeq checkAdditionOverflow constant summed modelBranch evalOp binary values value Smt.ite bvadd bvsub bvneg bvlshr bvult bvcomp bvand bit upper
 counted = refl
 
 -- by demand 3, and not by computing the lines' values
 meant : Flows states start calls
 unfolding start stored start-lines given operators view lineAt opOf walk mapOp evalOp values value states calls ask lui registerNodeValue
 meant =
-    demand-3 start calls accepted-start (lit< tt, (lit< tt, (lit< tt, (lit< tt, tt)))) ((λ _. tt), ((λ _. tt), ((λ _. tt), ((λ _. tt), tt)))) .flows states
+    demand-3 start calls accepted-start (lit< tt, (lit< tt, (lit< tt, (lit< tt, (lit< tt, tt))))) ((λ _. tt), ((λ _. tt), ((λ _. tt), ((λ _. tt), ((λ _. tt), tt))))) .flows states
     (subst (λ cs. length cs ≤ 1) (sym the-true-one) (lit≤ tt))
     (subst (λ cs. InOneWordEach (registerNodeValue states start) cs) (sym the-true-one) (lit≤ tt, tt))
     refl

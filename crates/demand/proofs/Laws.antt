@@ -35,7 +35,7 @@ node-lowering l st i pc flag e j h =
     rw e (outcome-node (withFlows (st .roles) (r .value .flows)) (i .rd) (r .value .outcome) j h ∙ flows-there (st .roles) (r .value .flows) j (omega arith))
 
 pub node-step : (h : Held) (c : Call) (j : ℕ) → j < 39 → role (step h c .state .roles) j ≡ role (h .state .roles) j
-unfolding step answerTo stateFor
+unfolding answerTo stateFor
 node-step h (lower c) j l =
     by-step h c (λ b x. role (x .state .roles) j ≡ role (h .state .roles) j)
     (λ q. node-lowering (lentFor h c) (stateFor h c) (c .instruction) (c .address) (c .flag) q j l)

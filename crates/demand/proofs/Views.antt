@@ -4,8 +4,8 @@ use native.Mathlib.Omega.{arith}
 use mathlib.Core.Path.{_≡_, refl, sym, _∙_, ap, ap₂, subst}
 use mathlib.Core.List.{List, [], _∷_, _++_, map}
 use lib.Dec.{T, eqb, eqb-refl, lit<}
-use lib.ListN.{length, getD, take, length-append, length-map, List·getD-map, List·getD-append}
-use lib.Seq.{length-take-le, getD-take}
+use lib.ListN.{length, getD, take, drop, length-append, length-take, length-drop, length-map, List·getD-map, List·getD-append}
+use lib.Seq.{length-take-le, take-all, getD-take}
 use Rattle.bitvec.proofs.Base.{by-le}
 use Rattle.btor2.specs.declared.NodeType.{NodeType}
 use Rattle.btor2.specs.declared.NodeType.the-variants.{Bit, Word, Memory, Input1Byte, Input2Byte, Input3Byte, Input4Byte, Input5Byte, Input6Byte, Input7Byte}
@@ -23,7 +23,7 @@ use Rattle.btor2_list.proofs.View.{view-length}
 use Rattle.btor2_list.proofs.Seen.{look-line, look-past}
 use Rattle.roles.specs.Roles.{valueNumber}
 use Rattle.lowering_laws.specs.Lines.{numbered}
-use Rattle.demand.specs.Calls.{operators}
+use Rattle.demand.specs.Calls.{operators, inFront}
 
 pub operators-length : (ws : List ℕ) (n : ℕ) → length (operators ws n) ≡ n
 unfolding operators
@@ -38,15 +38,28 @@ view-agree ws vs (suc n) h =
     (view-agree ws vs n (λ j l. h j (omega arith)))
     (ap nodeOf (same-words ws vs (n * stride) (n * stride) (λ k l. h (n * stride + k) (omega arith))))
 
-pub operators-spare : (ws spare : List ℕ) (n : ℕ) → n * stride ≤ length ws → operators (take (n * stride) ws ++ spare) n ≡ operators ws n
-unfolding operators
-operators-spare ws spare n h =
-    ap (map (λ line. line .op))
-    (view-agree (take (n * stride) ws ++ spare) ws n
-    (λ j l. List·getD-append (take (n * stride) ws) spare 0 j (rw (length-take-le (n * stride) ws h) l) ∙ getD-take (n * stride) ws j 0 l))
+-- where the room that is lent holds n lines, they are the ones that stand in front
+module _ (ws room : List ℕ) (n : ℕ) (held : n * stride ≤ length ws) (fits : n * stride ≤ length room) where
+  abbrev used : List ℕ
+  used = take (n * stride) ws
 
-pub spare-long : (ws spare : List ℕ) (n : ℕ) → n * stride ≤ length ws → n * stride ≤ length (take (n * stride) ws ++ spare)
-spare-long ws spare n h = rw (length-append, length-take-le (n * stride) ws h) (omega arith)
+  used-length : length used ≡ n * stride
+  used-length = length-take-le (n * stride) ws held
+
+  all-used : inFront used room ≡ used ++ drop (n * stride) room
+  unfolding inFront
+  all-used = rw (take-all (length room) used (rw used-length fits), used-length)
+
+  pub front-operators : operators (inFront used room) n ≡ operators ws n
+  unfolding operators
+  front-operators =
+      ap (map (λ line. line .op))
+      (view-agree (inFront used room) ws n
+      (λ j l. rw all-used (List·getD-append used (drop (n * stride) room) 0 j (rw used-length l) ∙ getD-take (n * stride) ws j 0 l)))
+
+pub front-length : (used room : List ℕ) → length (inFront used room) ≡ length room
+unfolding inFront
+front-length used room = simp (length-append, length-take, length-drop) (omega arith)
 
 -- lines under identifiers are the lines
 pub numbered-operators : (nid : ℕ) (os : List (Op ℕ)) → map (λ line. line .op) (numbered nid os) ≡ os

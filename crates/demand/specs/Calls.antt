@@ -2,10 +2,10 @@
 -- about the whole list of calls, not one for each: any records, addresses, flags and room. List, areas, identifier count and roles pass on,
 -- through a refused call as they were; edge, dispatch and bad lists may change in between."
 use Prim.Native.Nat.{ℕ, _*_}
-use mathlib.Core.Bool.{Bool}
+use mathlib.Core.Bool.{Bool, cond}
 use mathlib.Core.List.{List, [], _∷_, _++_, map}
 use lib.Dec.{eqb}
-use lib.ListN.{take}
+use lib.ListN.{length, take, drop}
 use Rattle.btor2.specs.declared.NodeRef.{NodeRef}
 use Rattle.btor2.specs.Op.{Op}
 use Rattle.btor2_list.specs.Record.{stride}
@@ -28,14 +28,15 @@ operators words n = map (λ line. line .op) (view words n)
 abbrev pub linesIn : Held → List (Op ℕ)
 linesIn h = operators (h .list) (h .state .tally .lines)
 
--- one lowering: the record, its address, the flag's place (one outside the list is an absent flag), and all that the host lends with it
+-- one lowering: the record, its address, the flag's place (one outside the list is an absent flag), and all that the host lends with it, of
+-- any length
 pub record Request : Type 0 where
   pub instruction : Instruction
   pub address : ℕ
   pub flag : NodeRef
-  -- what lies behind the lines, and behind what is in use of our name area
-  pub spareList : List ℕ
-  pub spareNames : List ℕ
+  -- the list and our name area, but for what is in use, which passes on
+  pub list : List ℕ
+  pub names : List ℕ
   -- "edge, dispatch and bad lists may change in between": whole lists, and how much of each is in use
   pub edges : List ℕ
   pub dispatches : List ℕ
@@ -47,10 +48,14 @@ pub record Request : Type 0 where
 pub data Call : Type 0 where
   lower : Request → Call
 
--- what a call is lent: the words and bytes in use pass on, all else is the call's own
+-- what is in use stands in front of the room that is lent, as far as that reaches
+unfoldable pub inFront : List ℕ → List ℕ → List ℕ
+inFront used room = take (length room) used ++ drop (length used) room
+
+-- what a call is lent
 unfoldable pub lentFor : Held → Request → Lent
 lentFor h c =
-    lent (take (h .state .tally .lines * stride) (h .list) ++ c .spareList) (take (h .state .counts .names) (h .names) ++ c .spareNames)
+    lent (inFront (take (h .state .tally .lines * stride) (h .list)) (c .list)) (inFront (take (h .state .counts .names) (h .names)) (c .names))
     (c .edges) (c .dispatches) (c .bads)
 
 unfoldable pub stateFor : Held → Request → State
@@ -67,9 +72,11 @@ answerTo h c = lowering (lentFor h c) (stateFor h c) (c .instruction) (c .addres
 unfoldable pub accepted : Held → Request → Bool
 accepted h c = eqb (answerTo h c .lowered .refusal) 0
 
--- what is held after a call, accepted or refused
+-- what is held after a call; "through a refused call as they were"
 unfoldable pub step : Held → Call → Held
-step h (lower c) = let a = answerTo h c in record { list = a .lent .list; names = a .lent .names; state = a .lowered .state }
+step h (lower c) =
+    let a = answerTo h c in
+    cond (accepted h c) (record { list = a .lent .list; names = a .lent .names; state = a .lowered .state }) h
 
 unfoldable pub run : Held → List Call → Held
 run h [] = h

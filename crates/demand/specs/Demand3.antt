@@ -1,4 +1,7 @@
--- Demand 3, whole (document 01, "Start, storage, evaluation"). The quoted words are document 01's, and each hypothesis has a name.
+-- Demand 3, whole: from a start that the start's check accepts, after any list of calls of which none is accepted for Mul, Mulw, Div or
+-- Divw, every line meets the sort rule; and where at most one accepted call that needs a flag has it true, each register flow and the memory
+-- flow have the manual's value where that call writes them, and their starting value elsewhere. The quoted words are document 01's ("Start,
+-- storage, evaluation"), and each hypothesis has a name.
 use Prim.Native.Nat.{ℕ, _*_, _^_, _≤_, _<_}
 use mathlib.Core.Path.{_≡_}
 use mathlib.Core.Bool.{Bool, cond, _&&_, not}
@@ -18,17 +21,20 @@ use Rattle.demand.specs.Calls.{Held, linesIn, Request, Call, lower, acce
 
 -- ---- what is asked of the start and of the calls
 
--- what the start's check accepts: "a list holds at most 1,048,576 lines and a start's next identifier is at most 2^31"; no "count above its
--- storage"; the sort rule; no "role outside the list, not a value line, or of the wrong sort"
+-- what the start's check accepts
 pub record AcceptedStart (h : Held) : Type 0 where
+  -- "A list holds at most 1,048,576 lines and a start's next identifier is at most 2^31"
   pub most : h .state .tally .lines ≤ 1048576
   pub identifier : h .state .tally .nid ≤ 2 ^ 31
+  -- the lent words hold the lines
   pub stored : h .state .tally .lines * stride ≤ length (h .list)
+  -- "Sort rule (BTOR2)"
   pub sorted : T (meetsSortRule (linesIn h))
+  -- "gives the roles": 79 of them, each a value line of its sort
   pub given : length (h .state .roles) ≡ 79
   pub roles : T (rolesFit (h .list) (h .state .tally .lines) 0 (h .state .roles))
 
--- "any records": imm is a word of 64 bits
+-- "any records": an immediate is a word of 64 bits
 abbrev pub Records : List Call → Type 0
 Records [] = Unit {0}
 Records (lower c ∷ cs) = (c .instruction .imm < 2 ^ 64) × Records cs
@@ -41,7 +47,7 @@ abbrev pub NoneExcluded : Held → List Call → Type 0
 NoneExcluded h [] = Unit {0}
 NoneExcluded h (lower c ∷ cs) = (T (accepted h c) → T (not (excluded (kindOf c)))) × NoneExcluded (step h (lower c)) cs
 
--- ---- values: "a line's value is BTOR2's for given states and inputs"
+-- ---- values: "A line's value is BTOR2's for given states and inputs, no init or Next used"; roles 4 and 70 are the memory node and its flow
 
 module _ (env : Env) where
   unfoldable pub registerNodeValue : Held → ℕ → ℕ
@@ -68,7 +74,7 @@ unfoldable pub trueCalls : (ℕ → Value) → Held → List Call → List Reque
 trueCalls v h [] = []
 trueCalls v h (lower c ∷ cs) = cond (isTrue v h c) (c ∷ trueCalls v (step h (lower c)) cs) (trueCalls v (step h (lower c)) cs)
 
--- ---- the manual's values: "of the register and memory flows, a store writes the memory flow, a branch or Ecall none, and any other of the 50
+-- ---- the manual's values: "Of the register and memory flows, a store writes the memory flow, a branch or Ecall none, and any other of the 50
 -- rd's alone, or none where rd is x0"
 
 -- register r, from 1 to 31, and the word of memory at address a; `before` is the flow's value before
@@ -88,7 +94,7 @@ unfoldable pub effectOf : (ℕ → ℕ) → (ℕ → ℕ) → Request → Effect
 effectOf registers memory c =
     let i = c .instruction in manual (i .imm) (c .address) (registers (i .rs1)) (registers (i .rs2)) (bytesOf memory) (kindOf c)
 
--- its load or store "stays in one aligned 8-byte word"
+-- each one's load or store stays in one aligned 8-byte word
 abbrev pub InOneWordEach : (ℕ → ℕ) → List Request → Type 0
 InOneWordEach registers [] = Unit {0}
 InOneWordEach registers (c ∷ cs) = InOneWord (kindOf c) (registers (c .instruction .rs1)) (c .instruction .imm) × InOneWordEach registers cs
@@ -100,7 +106,7 @@ module _ (env : Env) (start : Held) where
   abbrev pub ZeroRegister : Type 0
   ZeroRegister = registerNodeValue env start 0 ≡ 0
 
-  -- the flows once the one call with a true flag is done, if there is one; "a starting value is that of the node given at the start"
+  -- the flows once the one call with a true flag is done, if there is one; "A starting value is that of the node given at the start"
   abbrev pub registersBy : List Request → ℕ → ℕ
   registersBy [] r = registerFlowValue env start r
   registersBy (c ∷ cs) r =
@@ -129,7 +135,7 @@ module _ (env : Env) (start : Held) (calls : List Call) where
     pub memory : (a : ℕ) → a < 2 ^ 64 → memoryFlowValue env (run start calls) a ≡ memoryBy env start trueOnes a
 
 pub record Means (start : Held) (calls : List Call) : Type 0 where
-  -- every line of the final list meets the sort rule: "an operand is an earlier line other than Next and Bad"
+  -- every line of the final list meets the sort rule: "An operand is an earlier line other than Next and Bad"
   pub sorted : T (meetsSortRule (linesIn (run start calls)))
   -- for any states and inputs
   pub flows : (env : Env) → AtMostOne env start calls → StaysInOneWord env start calls → ZeroRegister env start → Flows env start calls

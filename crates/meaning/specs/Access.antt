@@ -10,10 +10,10 @@ accessBytes k =
     cond (oneOf k (Lb ∷ Lbu ∷ Sb ∷ [])) 1
     (cond (oneOf k (Lh ∷ Lhu ∷ Sh ∷ [])) 2 (cond (oneOf k (Lw ∷ Sw ∷ [])) 4 (cond (oneOf k (Ld ∷ Sd ∷ [])) 8 0)))
 
--- "stays in one aligned 8-byte word": from the effective address, rs1 plus imm, on
+-- a load or store from the effective address, rs1 plus imm, on stays in one aligned 8-byte word
 abbrev pub InOneWord : Kind → ℕ → ℕ → Type 0
 InOneWord k rs1 imm = (rs1 + imm) % 2 ^ 64 % 8 + accessBytes k ≤ 8
 
--- "none accepted for Mul, Mulw, Div, Divw"
+-- the kinds that demand 3 leaves out
 abbrev pub excluded : Kind → Bool
 excluded k = oneOf k (Mul ∷ Mulw ∷ Div ∷ Divw ∷ [])
