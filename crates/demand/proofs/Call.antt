@@ -249,48 +249,48 @@ module _ (l : Lent) (st : State) (i : Instruction) (pc : ℕ) (flag : NodeRef) w
 
     -- ---- sorts
 
-    abbrev st-is : Role → Bool
-    st-is = B.isState before place place-is
+    abbrev states : Role → Bool
+    states = B.isState before place place-is
 
-    abbrev rt-is : Role → Bool
-    rt-is = B.isRight before place place-is
+    abbrev rights : Role → Bool
+    rights = B.isRight before place place-is
 
-    fits : T (fine (length before) st-is rt-is needed lines)
-    fits = kind-sorts (length before) st-is rt-is (constantOf kind (i .imm) pc) (constant-fits kind (i .imm) pc word) name kind z d s (well-sorted kind cov)
+    fits : T (fine (length before) states rights needed lines)
+    fits = kind-sorts (length before) states rights (constantOf kind (i .imm) pc) (constant-fits kind (i .imm) pc word) name kind z d s (well-sorted kind cov)
 
     abbrev own-sorts : List Judged
     own-sorts = B.own before place place-is (lines .lines)
 
-    parts : T (allRight own-sorts) × T (outcomeHas (length before) st-is rt-is own-sorts (lines .gives .outcome) && (flowsHave (length before) st-is rt-is own-sorts (lines .gives .flows) && (quiet (lines .gives .outcome) || needed)))
+    parts : T (allRight own-sorts) × T (outcomeHas (length before) states rights own-sorts (lines .gives .outcome) && (flowsHave (length before) states rights own-sorts (lines .gives .flows) && (quiet (lines .gives .outcome) || needed)))
     unfolding fine
     parts = both (allRight own-sorts) _ fits
 
-    rest : T (outcomeHas (length before) st-is rt-is own-sorts (lines .gives .outcome)) × T (flowsHave (length before) st-is rt-is own-sorts (lines .gives .flows) && (quiet (lines .gives .outcome) || needed))
-    rest = both (outcomeHas (length before) st-is rt-is own-sorts (lines .gives .outcome)) _ (parts .1)
+    past-lines : T (outcomeHas (length before) states rights own-sorts (lines .gives .outcome)) × T (flowsHave (length before) states rights own-sorts (lines .gives .flows) && (quiet (lines .gives .outcome) || needed))
+    past-lines = both (outcomeHas (length before) states rights own-sorts (lines .gives .outcome)) _ (parts .1)
 
-    rest2 : T (flowsHave (length before) st-is rt-is own-sorts (lines .gives .flows)) × T (quiet (lines .gives .outcome) || needed)
-    rest2 = both (flowsHave (length before) st-is rt-is own-sorts (lines .gives .flows)) _ (rest .1)
+    past-outcome : T (flowsHave (length before) states rights own-sorts (lines .gives .flows)) × T (quiet (lines .gives .outcome) || needed)
+    past-outcome = both (flowsHave (length before) states rights own-sorts (lines .gives .flows)) _ (past-lines .1)
 
-    has-sort : (t : NodeType) (x : Ref) → T (has (length before) st-is rt-is t own-sorts x) → T (lineIs t after (resolve place (behind count) x))
+    has-sort : (t : NodeType) (x : Ref) → T (has (length before) states rights t own-sorts x) → T (lineIs t after (resolve place (behind count) x))
     has-sort t x h = subst (λ n. T (lineIs t after (resolve place (behind n) x))) long (B.has-after before place place-is (lines .lines) t x h)
 
-    outcome-sort : (o : P.Outcome Ref) → T (outcomeHas (length before) st-is rt-is own-sorts o) → OutcomeSort after (mapOutcome (resolve place (behind count)) o)
+    outcome-sort : (o : P.Outcome Ref) → T (outcomeHas (length before) states rights own-sorts o) → OutcomeSort after (mapOutcome (resolve place (behind count)) o)
     unfolding mapOutcome
     outcome-sort P.nothing h = tt
     outcome-sort (P.register x) h = has-sort Word x h
     outcome-sort (P.memory x) h = has-sort Memory x h
     outcome-sort (P.branch x y) h = tt
 
-    flow-sorts : (f : P.Flows Ref) → T (flowsHave (length before) st-is rt-is own-sorts f) → FlowSorts after (mapFlows (resolve place (behind count)) f)
+    flow-sorts : (f : P.Flows Ref) → T (flowsHave (length before) states rights own-sorts f) → FlowSorts after (mapFlows (resolve place (behind count)) f)
     unfolding mapFlows
     flow-sorts f h =
-        let p1 = both (has (length before) st-is rt-is Memory own-sorts (f .counter)) _ h in
-        let p2 = both (has (length before) st-is rt-is Word own-sorts (f .maximum)) _ (p1 .1) in
-        let p3 = both (has (length before) st-is rt-is Word own-sorts (f .division)) _ (p2 .1) in
-        let p4 = both (has (length before) st-is rt-is Word own-sorts (f .remainder)) _ (p3 .1) in
-        let p5 = both (has (length before) st-is rt-is Word own-sorts (f .access)) _ (p4 .1) in
-        let p6 = both (has (length before) st-is rt-is Bit own-sorts (f .addition)) _ (p5 .1) in
-        let p7 = both (has (length before) st-is rt-is Bit own-sorts (f .multiplication)) _ (p6 .1) in
+        let p1 = both (has (length before) states rights Memory own-sorts (f .counter)) _ h in
+        let p2 = both (has (length before) states rights Word own-sorts (f .maximum)) _ (p1 .1) in
+        let p3 = both (has (length before) states rights Word own-sorts (f .division)) _ (p2 .1) in
+        let p4 = both (has (length before) states rights Word own-sorts (f .remainder)) _ (p3 .1) in
+        let p5 = both (has (length before) states rights Word own-sorts (f .access)) _ (p4 .1) in
+        let p6 = both (has (length before) states rights Bit own-sorts (f .addition)) _ (p5 .1) in
+        let p7 = both (has (length before) states rights Bit own-sorts (f .multiplication)) _ (p6 .1) in
         record {
           counter = has-sort Memory (f .counter) (p1 .0);
           maximum = has-sort Word (f .maximum) (p2 .0);
@@ -304,7 +304,7 @@ module _ (l : Lent) (st : State) (i : Instruction) (pc : ℕ) (flag : NodeRef) w
 
     -- without a flag no register's or memory's flow is written
     pub quiet-or-needed : T (quiet (lines .gives .outcome) || needed)
-    quiet-or-needed = rest2 .1
+    quiet-or-needed = past-outcome .1
 
     -- the old roles behind more lines
     old-roles : Roled after (st .roles)
@@ -318,13 +318,13 @@ module _ (l : Lent) (st : State) (i : Instruction) (pc : ℕ) (flag : NodeRef) w
     flows-set = withFlows (st .roles) (mapFlows (resolve place (behind count)) (lines .gives .flows))
 
     pub roles-set : Roled after flows-set
-    roles-set = fit-flows (mapFlows (resolve place (behind count)) (lines .gives .flows)) old-roles (flow-sorts (lines .gives .flows) (rest2 .0))
+    roles-set = fit-flows (mapFlows (resolve place (behind count)) (lines .gives .flows)) old-roles (flow-sorts (lines .gives .flows) (past-outcome .0))
 
     pub good-after : Good (answered .lent .list) (answered .lowered .state)
     good-after = record {
       stored = rw (accepts .lines, accepts .list .size) (omega (arith, rw grown at (room .lines)));
       sorted = rw list-after (B.sorted-after before place place-is (lines .lines) (g .sorted) (parts .0));
-      roles = rw (list-after, roles-after) (fit-outcome flows-set (i .rd) after (mapOutcome (resolve place (behind count)) (lines .gives .outcome)) roles-set (outcome-sort (lines .gives .outcome) (rest .0)));
+      roles = rw (list-after, roles-after) (fit-outcome flows-set (i .rd) after (mapOutcome (resolve place (behind count)) (lines .gives .outcome)) roles-set (outcome-sort (lines .gives .outcome) (past-lines .0)));
     }
 
     pub values-kept : (env : Env) (p : ℕ) → p < length before → value env (operators (answered .lent .list) (answered .lowered .state .tally .lines)) p ≡ value env before p
