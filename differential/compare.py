@@ -1,0 +1,291 @@
+#!/usr/bin/env python3
+"""compare.py [--listing PROGRAM] [--source FOLDER] [--seeds A B] [--lines N]: the listing program against the unchanged Rust.
+
+Builds the oracle (README.md) from FOLDER (default: ../shared/docs/src beside the repository), gives generated inputs to PROGRAM (default:
+target/bin/listing) and compares all that it writes, byte by byte, with
+
+- what the Rust prints, for the lines that are accepted: node lines, edges, dispatches. Flows show in the node lines that follow: most inputs
+  end with lines that name every flow;
+- `; refused LINE NUMBER` for the others. Which are refused, and with what number, is tools/refusal.py's reading of document 01, with the
+  listing's 1,024 lines. Where the Rust panics or has no such record, the oracle must say so too (negative shift amounts apart, which the
+  Rust lowers), and its node lines must be as many as document 01's table says.
+
+The inputs: generate.py's sweep (every kind, each field at each boundary, malformed lines of every sort), the list filled so that each kind
+has just enough room and one line too few, odd ends and sizes of input, and for each seed from A to B (1 to 40) N (60) mixed lines and a
+list that fills up. Prints counts for each kind and refusal, then 'no difference' or the differences, whose inputs it keeps in
+target/differences here. Exit status: 0 no difference, 1 differences, 2 it could not be run.
+"""
+import argparse
+import collections
+import pathlib
+import random
+import subprocess
+import sys
+import time
+
+HERE = pathlib.Path(__file__).resolve().parent
+sys.path[:0] = [str(HERE), str(HERE.parent / "tools")]
+
+import generate
+import refusal
+
+SHOWN = 10  # differences
+
+
+#
+# What the listing must write
+#
+
+
+class Oracle:
+    def __init__(self, program):
+        self.program = program
+
+    def run(self, lines):
+        text = b"".join(line + b"\n" for line in lines)
+        return subprocess.run([self.program], input=text, stdout=subprocess.PIPE, check=True).stdout.decode().splitlines()
+
+    def blocks(self, accepted):
+        """What the Rust prints for each of these lines. An empty line, answered `; malformed`, parts them."""
+        block = []
+        for text in self.run([part for line in accepted for part in (line, b"")]):
+            if text == "; malformed":
+                yield block
+                block = []
+            else:
+                block.append(text)
+
+
+def lowered_by_the_rust(record):
+    """Negative amounts, refused with 3, which the Rust's tests `imm < 64` and `imm < 32` pass."""
+    _, kind, rd, _, _, imm = record
+    return kind in ("Slli", "Srli", "Slliw", "Srliw") and imm < 0 and rd != 0
+
+
+def oracle_says(number):
+    return "; malformed" if number == 0 else "; unencodable" if number == 2 else "; panic"
+
+
+def expected(lines, oracle, counts):
+    """The listing's output, a list of lines for each input line. Raises Disagree where oracle and document 01 don't fit together."""
+    listing = refusal.Listing()
+    numbers = [listing.take(line) for line in lines]
+    blocks = oracle.blocks([line for line, number in zip(lines, numbers) if number is None])
+    refused = []
+    for n, (line, number) in enumerate(zip(lines, numbers), 1):
+        record = refusal.fields(line)
+        if number is not None:
+            counts["refused", number] += 1
+            if number != 8 and not (number == 3 and lowered_by_the_rust(record)):
+                refused.append((line, oracle_says(number)))
+            yield [f"; refused {n} {number}"]
+            continue
+        block = next(blocks)
+        _, kind, rd, rs1, _, imm = record
+        nodes = sum(not text.startswith(";") for text in block)
+        if nodes != refusal.appended(kind, rd, rs1, imm) or set(block) & {"; panic", "; unencodable"}:
+            raise Disagree(f"the Rust lowers {line.decode()!r} to {nodes} lines: {block}")
+        counts["accepted", kind] += 1
+        counts["node lines"] += nodes
+        counts["edges"] += sum(text.startswith("; in ") for text in block)
+        counts["dispatches"] += sum(text.startswith("; dyn ") for text in block)
+        yield block
+    for (line, wanted), answer in zip(refused, oracle.run([line for line, _ in refused])):
+        if answer != wanted:
+            raise Disagree(f"the oracle answers {line!r} with {answer!r} where document 01 gives {wanted!r}")
+
+
+class Disagree(Exception):
+    pass
+
+
+#
+# The inputs: a name, lines, and whether the last one has its newline
+#
+
+# Every flow is named by one of their node lines: registers, memory, counter, access, counter-max, division, remainder, overflows, ecall.
+PROBES = [f"0 Lui {r} 0 0 1".encode() for r in range(1, 32)] + [
+    b"0 Sd 0 1 2 0", b"0 Ld 1 2 0 0", b"0 Divu 1 2 3 0", b"0 Remu 1 2 3 0", b"0 Add 1 2 3 0", b"0 Mul 1 2 3 0", b"0 Ecall 0 0 0 0"
+]  # fmt: skip
+PROBE_LINES = 111
+
+
+def in_parts(lines):
+    """The lines in as many inputs as it takes that no list fills up, each with the probes behind them."""
+    part, listing = [], refusal.Listing()
+    for line in lines:
+        listing.take(line)
+        part.append(line)
+        if listing.left < PROBE_LINES + 35:
+            yield part + PROBES
+            part, listing = [], refusal.Listing()
+    yield part + PROBES
+
+
+def filled_to(left):
+    """Lines that leave this much room."""
+    room = refusal.HOLDS - refusal.START - left
+    for count, line in ((35, b"0 Mulw 1 2 3 0"), (2, b"0 Lui 4 0 0 1"), (1, b"0 Ecall 0 0 0 0")):
+        yield from [line] * (room // count)
+        room %= count
+
+
+ON_A_FULL_LIST = [b"0 Addi 0 1 0 5", b"0 Jal 0 0 0 8", b"0 Jalr 0 1 0 0"]  # they append nothing
+
+
+def brims():
+    """For each kind the list with one line too few, and with just enough; then what a full list still takes."""
+    for kind in refusal.KINDS:
+        for rd, rs1, imm in (5, 6, 0 if kind == "Jalr" else 4), (5, 0, 0), (0, 6, 0):
+            record = kind, rd, rs1, 7, imm
+            if refusal.refusal(*record):
+                continue
+            line = f"65536 {kind} {rd} {rs1} 7 {imm}".encode()
+            needs = refusal.appended(kind, rd, rs1, imm)
+            after = ON_A_FULL_LIST + [line, b"0 Lui 0 0 0 1", b"0 Xor 1 2 3 0", b"", b"0 Ecall 0 0 0 0"]
+            if needs:
+                yield f"brim {kind} {rd} {rs1} {imm} short", list(filled_to(needs - 1)) + [line] + after
+            yield f"brim {kind} {rd} {rs1} {imm} enough", list(filled_to(needs)) + [line] + after
+
+
+def filling(rng, lines):
+    """Mixed lines until the list is full, and as many more."""
+    listing, out = refusal.Listing(), []
+    while listing.left and len(out) < 1000:
+        out.append(generate.any_line(rng))
+        listing.take(out[-1])
+    return out + [generate.any_line(rng) for _ in range(lines)] + ON_A_FULL_LIST
+
+
+def odd_inputs():
+    good = b"65536 Lui 5 0 0 1"
+    yield "empty", [], True
+    yield "an empty line", [b""], True
+    yield "three empty lines", [b"", b"", b""], True
+    for name, line in ("one line", good), ("a long line", b"7" * 100_000), ("only spaces", b"     "):
+        yield name, [line], True
+        yield name + " without its newline", [line], False
+    for length in (255, 256, 257, 258, 511, 512, 513, 1023, 1024, 4096, 65535, 65536, 65537):
+        yield f"a line of {length} bytes", [good, b"A" * length, good, b" " * length, good], False
+    yield "document 01's example", [good, b"65540 Bltu 0 5 6 -4", b"65544 Srliw 5 5 0 0"], True
+    rng = random.Random("long")
+    yield "a long input", [generate.any_line(rng) for _ in range(20_000)] + PROBES, True
+    yield "a long input of nothing accepted", [b"65536 Fence 0 0 0 0"] * 20_000 + PROBES, True
+
+
+def inputs(first, last, count):
+    for n, part in enumerate(in_parts(generate.sweep()), 1):
+        yield f"sweep {n}", part, n % 2 == 0
+    for name, part in brims():
+        yield name, part, True
+    yield from odd_inputs()
+    for seed in range(first, last + 1):
+        rng = random.Random(seed)
+        yield f"seed {seed}, mixed", [generate.any_line(rng) for _ in range(count)] + PROBES, True
+        yield f"seed {seed}, filling", filling(rng, count), False
+
+
+#
+# The comparison
+#
+
+
+def joined(lines, newline):
+    """The input's bytes. An empty last line is none without its newline."""
+    return b"\n".join(lines) + (b"\n" if lines and (newline or not lines[-1]) else b"")
+
+
+def whole(program, text):
+    return subprocess.run([program], input=text, stdout=subprocess.PIPE, timeout=120)
+
+
+def in_pieces(program, text):
+    """As above, but the input comes a few bytes at a time."""
+    process = subprocess.Popen([program], stdin=subprocess.PIPE, stdout=subprocess.PIPE)
+    for n in range(0, len(text), 7):
+        process.stdin.write(text[n : n + 7])
+        process.stdin.flush()
+        time.sleep(0.0002)
+    out, _ = process.communicate(timeout=120)
+    return subprocess.CompletedProcess(program, process.returncode, out)
+
+
+def difference(lines, blocks, done):
+    """The first place where the output isn't the blocks, or None."""
+    got = done.stdout.split(b"\n")
+    wanted = [(n, text) for n, block in enumerate(blocks, 1) for text in block]
+    for place, (n, text) in enumerate(wanted):
+        if place + 1 >= len(got) or got[place] != text.encode():
+            found = repr(got[place]) + ("" if place + 1 < len(got) else ", without a newline") if place < len(got) else "nothing"
+            return f"input line {n}, {lines[n - 1][:100]!r}: expected {text!r}, got {found}"
+    if got[len(wanted) :] != [b""]:
+        return f"after the last expected line: {got[len(wanted):][:3]}"
+    return f"exit status {done.returncode}" if done.returncode else None
+
+
+def compare(program, oracle, name, lines, newline, counts, run, kept=HERE / "target" / "differences"):
+    """What differs for this input, which then is kept, or None."""
+    text = joined(lines, newline)
+    try:
+        blocks = list(expected(lines, oracle, counts))
+        found = difference(lines, blocks, run(program, text))
+    except Disagree as reason:
+        found = str(reason)
+    except subprocess.TimeoutExpired:
+        found = "no end after 120 seconds"
+    except BrokenPipeError:
+        found = "it ended before its input did"
+    if found:
+        kept.mkdir(parents=True, exist_ok=True)
+        path = kept / (name.replace(" ", "-").replace(",", "") + ".txt")
+        path.write_bytes(text)
+        return f"{name}: {found}\n    input: {path}"
+    return None
+
+
+def summary(counts, inputs_run):
+    print(f"{inputs_run} inputs: {counts['node lines']} node lines, {counts['edges']} edges, {counts['dispatches']} dispatches")
+    print("accepted:", ", ".join(f"{kind} {counts['accepted', kind]}" for kind in refusal.KINDS))
+    print("refused:", ", ".join(f"with {number} {counts['refused', number]}" for number in (0, 1, 2, 3, 4, 5, 6, 8)))
+    missing = [kind for kind in refusal.KINDS if not counts["accepted", kind]]
+    missing += [number for number in (0, 1, 2, 3, 4, 5, 6, 8) if not counts["refused", number]]
+    return [f"not reached by any input: {missing}"] if missing else []
+
+
+def arguments():
+    parser = argparse.ArgumentParser(description="The listing program against the unchanged Rust.")
+    parser.add_argument("--listing", default=HERE.parent / "target" / "bin" / "listing", type=pathlib.Path)
+    parser.add_argument("--source", default=HERE.parent.parent / "shared" / "docs" / "src", type=pathlib.Path)
+    parser.add_argument("--seeds", nargs=2, default=(1, 40), type=int, metavar=("A", "B"))
+    parser.add_argument("--lines", default=60, type=int)
+    return parser.parse_args()
+
+
+def main():
+    chosen = arguments()
+    if subprocess.run([HERE / "build.sh", chosen.source]).returncode:
+        return 2
+    listing = chosen.listing.resolve()
+    if not listing.is_file():
+        print(f"compare.py: {listing} is missing", file=sys.stderr)
+        return 2
+    oracle = Oracle(HERE / "target" / "oracle")
+    counts, differences, run = collections.Counter(), [], 0
+    for name, lines, newline in inputs(*chosen.seeds, chosen.lines):
+        differences.append(compare(listing, oracle, name, lines, newline, counts, whole))
+        run += 1
+    rng = random.Random("pieces")
+    pieces = [generate.any_line(rng) for _ in range(100)]
+    differences.append(compare(listing, oracle, "in small pieces", pieces, False, counts, in_pieces))
+    differences = [found for found in differences if found] + summary(counts, run + 1)
+    if not differences:
+        print("no difference")
+        return 0
+    for found in differences[:SHOWN]:
+        print(found)
+    print(f"{len(differences)} differences")
+    return 1
+
+
+if __name__ == "__main__":
+    sys.exit(main())
