@@ -1,8 +1,8 @@
 #!/usr/bin/env python3
 """compare.py [--listing PROGRAM] [--source FOLDER] [--seeds A B] [--lines N]: the listing program against the unchanged Rust.
 
-Builds the oracle (README.md) from FOLDER (default: ../shared/docs/src beside the repository), gives generated inputs to PROGRAM (default:
-target/bin/listing) and compares all that it writes, byte by byte, with
+Builds the oracle (README.md) from FOLDER (default as build.sh's: ../shared/docs/src beside the repository), gives generated inputs to
+PROGRAM (default: target/bin/listing of the repository) and compares all that it writes, byte by byte, with
 
 - what the Rust prints, for the lines that are accepted: node lines, edges, dispatches. Flows show in the node lines that follow: most inputs
   end with lines that name every flow;
@@ -255,7 +255,7 @@ def summary(counts, inputs_run):
 def arguments():
     parser = argparse.ArgumentParser(description="The listing program against the unchanged Rust.")
     parser.add_argument("--listing", default=HERE.parent / "target" / "bin" / "listing", type=pathlib.Path)
-    parser.add_argument("--source", default=HERE.parent.parent / "shared" / "docs" / "src", type=pathlib.Path)
+    parser.add_argument("--source", type=pathlib.Path)
     parser.add_argument("--seeds", nargs=2, default=(1, 40), type=int, metavar=("A", "B"))
     parser.add_argument("--lines", default=60, type=int)
     return parser.parse_args()
@@ -263,7 +263,7 @@ def arguments():
 
 def main():
     chosen = arguments()
-    if subprocess.run([HERE / "build.sh", chosen.source]).returncode:
+    if subprocess.run([HERE / "build.sh"] + ([chosen.source] if chosen.source else [])).returncode:
         return 2
     listing = chosen.listing.resolve()
     if not listing.is_file():
