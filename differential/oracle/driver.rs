@@ -6,15 +6,15 @@ use std::io::{self, BufRead, Write};
 use std::panic::{catch_unwind, set_hook, take_hook, AssertUnwindSafe};
 use std::sync::atomic::{AtomicBool, Ordering::Relaxed};
 
-type Answer<T> = std::result::Result<T, &'static str>;
+pub(super) type Answer<T> = std::result::Result<T, &'static str>;
 
 const MALFORMED: &str = "; malformed"; // not the listing's grammar
 const UNENCODABLE: &str = "; unencodable"; // a record that no instruction word holds, so that riscu never hands it on
 const PANIC: &str = "; panic"; // the Rust panics
 
-struct Line {
-    address: u64,
-    inst: Instruction,
+pub(super) struct Line {
+    pub(super) address: u64,
+    pub(super) inst: Instruction,
     imm: i32,
 }
 
@@ -46,7 +46,7 @@ fn immediate(text: &[u8]) -> Answer<i32> {
     }
 }
 
-fn parse(line: &[u8]) -> Answer<Line> {
+pub(super) fn parse(line: &[u8]) -> Answer<Line> {
     let fields: Vec<&[u8]> = line.split(|byte| *byte == b' ').collect();
     if line.len() > 256 || fields.len() != 6 {
         return Err(MALFORMED);
@@ -137,7 +137,7 @@ impl Record {
 // The start, identifiers 20 to 58
 //
 
-fn start() -> (ModelBuilder, NodeRef) {
+pub(super) fn start() -> (ModelBuilder, NodeRef) {
     let model_values = ModelValues {
         is_64bit: true,
         run_32bit: false,
@@ -180,7 +180,7 @@ fn start() -> (ModelBuilder, NodeRef) {
 // What a lowering changes: saved before it, put back where it panics
 //
 
-fn single_flows(b: &mut ModelBuilder) -> [&mut NodeRef; 9] {
+pub(super) fn single_flows(b: &mut ModelBuilder) -> [&mut NodeRef; 9] {
     [
         &mut b.memory_flow,
         &mut b.memory_counter_flow,
