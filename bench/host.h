@@ -1,9 +1,9 @@
 // What src/ours.rs calls of libhost.a: the bench's side of the seam. Where the library's own header says it otherwise, that one counts, and
 // src/ours.rs follows it.
 //
-// A slice is a pointer and a length, as an exported function of Rattle takes it. A line is 10 words (crates/btor2_list), an edge 4, a dispatch
-// 2, a bad 1 (crates/edges). `state` is 85 words: lines and next identifier; how much of our names, edges, dispatches and bads is in use; the
-// 79 roles (crates/roles). Both functions give document 01's number of a refusal, or 0.
+// A slice is a pointer and a length, as an exported function of Rattle takes it. A line is 10 words (crates/btor2_list), an edge 4, a
+// dispatch 2, a bad 1 (crates/edges). `state` is 85 words: lines and next identifier; how much of our names, edges, dispatches and bads is
+// in use; the 79 roles (crates/roles). Both functions give document 01's number of a refusal, or 0.
 #include <stddef.h>
 #include <stdint.h>
 

@@ -4,8 +4,8 @@
 Builds the oracle (README.md) from FOLDER (default as build.sh's: ../shared/docs/src beside the repository), gives generated inputs to
 PROGRAM (default: target/bin/listing of the repository) and compares all that it writes, byte by byte, with
 
-- what the Rust prints, for the lines that are accepted: node lines, edges, dispatches. Flows show in the node lines that follow: most inputs
-  end with lines that name every flow;
+- what the Rust prints, for the lines that are accepted: node lines, edges, dispatches. Flows show in the node lines that follow: most
+  inputs end with lines that name every flow;
 - `; refused LINE NUMBER` for the others. Which are refused, and with what number, is tools/refusal.py's reading of document 01, with the
   listing's 1,024 lines. Where the Rust panics or has no such record, the oracle must say so too (negative shift amounts apart, which the
   Rust lowers), and its node lines must be as many as document 01's table says.
@@ -90,9 +90,12 @@ def expected(lines, oracle, counts):
         counts["edges"] += sum(text.startswith("; in ") for text in block)
         counts["dispatches"] += sum(text.startswith("; dyn ") for text in block)
         yield block
-    for (line, wanted), answer in zip(refused, oracle.run([line for line, _ in refused])):
+    answers = oracle.run([line for line, _ in refused])
+    for (line, wanted), answer in zip(refused, answers):
         if answer != wanted:
             raise Disagree(f"the oracle answers {line!r} with {answer!r} where document 01 gives {wanted!r}")
+    if len(answers) != len(refused):
+        raise Disagree("the oracle answers a refused line with more than a line")
 
 
 class Disagree(Exception):
@@ -107,7 +110,7 @@ class Disagree(Exception):
 PROBES = [f"0 Lui {r} 0 0 1".encode() for r in range(1, 32)] + [
     b"0 Sd 0 1 2 0", b"0 Ld 1 2 0 0", b"0 Divu 1 2 3 0", b"0 Remu 1 2 3 0", b"0 Add 1 2 3 0", b"0 Mul 1 2 3 0", b"0 Ecall 0 0 0 0"
 ]  # fmt: skip
-PROBE_LINES = 111
+PROBE_LINES = refusal.HOLDS - refusal.START - refusal.left_after(PROBES)
 
 
 def in_parts(lines):

@@ -13,11 +13,13 @@ import sys
 import tempfile
 
 import compare
+import generate
+import refusal
 
 LINES = [
     b"65536 Lui 5 0 0 1", b"65540 Bltu 0 5 6 -4", b"65544 Srliw 5 5 0 0", b"65548 Lui 5 0 0 2", b"65552 Sd 0 1 2 8", b"65556 Sra 7 8 9 0",
-    b"43981 Jalr 1 0 0 8", b"8 Jalr 0 31 0 0", b"12 Beq 0 1 2 4", b"16 Ecall 0 0 0 0", b"20 Jal 0 0 0 -4", b"24 Sltu 1 2 3 0", b"", b"0 Xor 1 2 3 0",
-    b"0 Lui 32 0 0 1", b"0 Slli 1 1 0 -1", b"0 Lui 0 0 0 1", b"0 Jalr 0 1 0 4",
+    b"43981 Jalr 1 0 0 8", b"8 Jalr 0 31 0 0", b"12 Beq 0 1 2 4", b"16 Ecall 0 0 0 0", b"20 Jal 0 0 0 -4", b"24 Sltu 1 2 3 0", b"",
+    b"0 Xor 1 2 3 0", b"0 Lui 32 0 0 1", b"0 Slli 1 1 0 -1", b"0 Lui 0 0 0 1", b"0 Jalr 0 1 0 4",
 ] + compare.PROBES + [b"0 Mulw 1 2 3 0"] * 30  # fmt: skip
 
 # A name, and a pattern that is replaced where it first stands.
@@ -74,7 +76,8 @@ def main():
         altered = re.sub(pattern, replacement, right, count=1)
         assert altered != right, name
         cases.append((name, altered, 0, True))
-    results = []
+    of_grammar = [line for text in ("65536 Addi 5 6 7 2", "0 Xor 0 0 0 -1") for line in generate.malformed_bytes(text) if refusal.fields(line)]
+    results = [("malformed lines are", not of_grammar, of_grammar)]
     with tempfile.TemporaryDirectory() as folder:
         folder = pathlib.Path(folder)
         for name, text, status, wrong in cases:

@@ -122,6 +122,12 @@ UNKNOWN = (
 )
 
 
+# In no field a number, and none a kind; the bytes around the digits and the letters among them.
+NO_NUMBERS = ["", "00", "+1", "--1", "-", "-0", "-00", "-01", "1-", "0x10", "1e1", "1_0", "1.0", "/", ":", "1:", "/1", "１", "²", "1\x00"]
+NO_NUMBERS += ["one", "9" * 200, str(2**128), str(2**64 + 4), str(2**64)]
+NO_KINDS = ["", "5", "Addi5", "5Addi", "Add-i", "Ad_di", "Addi.", "@ddi", "Add[", "`ddi", "Add{", "Add\x00", "Addé", "Ａddi", "\ufeffAddi"]
+
+
 def malformed(text):
     """Every way in which this line, one of the grammar's, is made one that is not."""
     fields = text.split(" ")
@@ -129,10 +135,8 @@ def malformed(text):
     def put(place, field):
         return " ".join(fields[:place] + [field] + fields[place + 1 :])
 
-    numbers = [0, 2, 3, 4, 5]
-    for n in numbers:
-        for wrong in ["", "00", "0" + fields[n], "+1", "--1", "-", "-0", "-00", "-01", "1-", "0x10", "1e1", "1_0", "1.0", "/", ":", "1:", "/1",
-                      "１", "²", "1\x00", "one", "9" * 200, str(2**128), str(2**64 + 4), str(2**64)]:  # fmt: skip
+    for n in (0, 2, 3, 4, 5):
+        for wrong in NO_NUMBERS + ["0" + fields[n]]:
             yield put(n, wrong)
     for n in (0, 2, 3, 4):
         yield put(n, "-1")
@@ -141,7 +145,7 @@ def malformed(text):
             yield put(n, str(wrong))
     for wrong in (2**31, 2**31 + 1, 2**32, 2**32 + 4, 2**63, -(2**31) - 1, -(2**32), -(2**32) + 4, -(2**63), -(2**64), -(2**64) + 4):
         yield put(5, str(wrong))
-    for wrong in ["", "5", "Addi5", "5Addi", "Add-i", "Ad_di", "Addi.", "@ddi", "Add[", "`ddi", "Add{", "Add\x00", "Addé", "Ａddi", "\ufeffAddi"]:
+    for wrong in NO_KINDS:
         yield put(1, wrong)
     for n in range(6):
         yield " ".join(fields[:n])  # the first n fields, none among them

@@ -14,8 +14,8 @@ lists the BTOR2 lines of the firmware. The listing holds 1,024 lines: longer fir
 - The numbers are decimal. Fields that a kind doesn't use are 0. imm is the signed immediate; for Lui and Auipc the field of 20 bits, 0 to
   1048575; for branches and Jal the distance in bytes; for shifts by an immediate, Srai and Sraiw too, the amount.
 - Kinds are spelt as in the Rust's `translate_to_model`. What the listing doesn't take is a line all the same, which it refuses with 1: the
-  rest of RV64IM, Fence, FenceI, Ebreak and the CSR instructions under their names, `Compressed` for an instruction of 16 bits, `Unknown` for
-  every other encoding, reserved ones and data among them (longer ones go in steps of 4 bytes), and for what is cut short at the end.
+  rest of RV64IM, Fence, FenceI, Ebreak and the CSR instructions under their names, `Compressed` for an instruction of 16 bits, `Unknown`
+  for every other encoding, reserved ones and data among them (longer ones go in steps of 4 bytes), and for what is cut short at the end.
 
 The decoder is written from the RISC-V Unprivileged ISA (RV32/64G Instruction Set Listings) and needs no other tool. A file that is not what
 it should be is an error, with exit status 1 and no line printed. Test: tools/firmware_lines_test.py.

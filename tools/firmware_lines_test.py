@@ -4,8 +4,8 @@
     tools/firmware_lines_test.py              the tests; samples/ must be what they make
     tools/firmware_lines_test.py --samples    writes samples/firmware.bin, assembled below, and samples/firmware.txt, its lines
 
-The words of WORDS were taken once from LLVM's assembler, for the text behind `#`, and each line was written by hand after that text. `encode`
-puts a line's fields where the RISC-V manual's formats have them, for the sample; it must give the same words.
+The words of WORDS were taken once from LLVM's assembler, for the text behind `#`, and each line was written by hand after that text.
+`encode` puts a line's fields where the RISC-V manual's formats have them, for the sample; it must give the same words.
 """
 import pathlib
 import struct
@@ -121,7 +121,7 @@ c00ff0f3  Csrrci 0 0 0 0             # csrrci x1, 0xc00, 31
 NOT_INSTRUCTIONS = {  # reserved or not of RV64IM: what is wrong with each
     0x0000000B: "custom-0", 0x00007003: "load with funct3 7", 0x00004023: "store with funct3 4", 0x00002063: "branch with funct3 2",
     0x00001067: "jalr with funct3 1", 0x04001013: "slli with bit 26 set", 0x80005013: "srli with bit 31 set", 0x0200101B: "slliw by 32",
-    0x4200501B: "sraiw by 32", 0x0000201B: "addiw's opcode with funct3 2", 0x40001033: "sll with sub's funct7", 0x0400003B: "addw with funct7 2",
+    0x4200501B: "sraiw by 32", 0x0000201B: "addiw with funct3 2", 0x40001033: "sll with sub's funct7", 0x0400003B: "addw with funct7 2",
     0x0200103B: "mulw with funct3 1", 0x00000053: "fadd.s", 0x1000202F: "lr.w", 0x00002007: "flw", 0x00200073: "ecall with imm 2",
     0x000000F3: "ecall with rd x1", 0xFFFFFFFF: "all ones", 0x0000001F: "an encoding of 48 bits",
 }  # fmt: skip
@@ -136,7 +136,8 @@ OPCODE = {
     0x33: "Add Sll Slt Sltu Xor Srl Or And", 0x3B: "Addw Sllw . . . Srlw", 0x0F: "Fence FenceI", 0x73: "Ecall",
 }  # fmt: skip
 CODES = {kind: (opcode, funct3, 0) for opcode, kinds in OPCODE.items() for funct3, kind in enumerate(kinds.split())}
-CODES |= {"Sub": (0x33, 0, 32), "Sra": (0x33, 5, 32), "Srai": (0x13, 5, 32), "Subw": (0x3B, 0, 32), "Sraw": (0x3B, 5, 32), "Sraiw": (0x1B, 5, 32)}
+CODES |= {"Sub": (0x33, 0, 32), "Sra": (0x33, 5, 32), "Srai": (0x13, 5, 32)}
+CODES |= {"Subw": (0x3B, 0, 32), "Sraw": (0x3B, 5, 32), "Sraiw": (0x1B, 5, 32)}
 CODES |= {kind: (0x33, n, 1) for n, kind in enumerate("Mul Mulh Mulhsu Mulhu Div Divu Rem Remu".split())}
 CODES |= {kind: (0x3B, n, 1) for n, kind in zip((0, 4, 5, 6, 7), "Mulw Divw Divuw Remw Remuw".split())}
 
@@ -317,7 +318,8 @@ def elf_tests(image, lines):
     sections = [(8, 3, 0, b"none"), data, code, (3, 0, 0, b"names"), more]  # also one of zeros, one of strings
     wanted = ["16 Ecall 0 0 0 0"] + lines
     test("ELF, its sections", run(elf(sections, [(1, 5, 0, image)])), wanted)
-    test("ELF, its segments", run(elf([], [(1, 6, BASE + 4096, b"data"), (1, 5, BASE, image), (2, 5, 0, b"more"), (1, 1, 16, more[3])])), wanted)
+    segments = [(1, 6, BASE + 4096, b"data"), (1, 5, BASE, image), (2, 5, 0, b"more"), (1, 1, 16, more[3])]
+    test("ELF, its segments", run(elf([], segments)), wanted)
     test("ELF without code", run(elf([data])), [])
     whole = elf(sections)
     test("no ELF", run(image)[:2], (1, ""))

@@ -1,7 +1,7 @@
 """The fifty kinds, the listing's grammar and its refusals, read off document 01. Shares nothing with the project's definitions and code.
 
-`refusal` gives 1 to 6, which an instruction has by itself; `Listing` every number that the listing program can give, in document 01's order:
-0, 1 to 6, 8. Its flag, 58, is always good (no 7), and its start too (no 9 to 13).
+`refusal` gives 1 to 6, which an instruction has by itself; `Listing` every number that the listing program can give, in document 01's
+order: 0, 1 to 6, 8. Its flag, 58, is always good (no 7), and its start too (no 9 to 13).
 """
 import re
 
@@ -112,3 +112,11 @@ class Listing:
             return 8
         self.left -= needs
         return None
+
+
+def left_after(lines):
+    """The room that these lines leave."""
+    listing = Listing()
+    for line in lines:
+        listing.take(line)
+    return listing.left

@@ -8,10 +8,10 @@ BTOR2's operators as SMT-LIB defines them, on boundary-heavy registers and memor
 - both with what the registers and the memory held at the start, where the flag is 0;
 - the conditions of a branch's two edges with the manual's, and where edges and dispatches go.
 
-All instructions of a listing read the start's nodes, so each is compared by itself, in a long listing as in a short one. Which line is a flow
-is read off the structure: the start's flows are the nodes 24 to 54 (x1 to x31) and 55 (memory); an instruction that writes rd has, as its last
-line `ite 2 58 RESULT OLD`, the new flow of rd, and a store, as its last line `ite 3 58 RESULT OLD`, that of the memory. OLD must be the flow
-before it. An empty input line stands behind each instruction; its refusal shows where the instruction's lines end.
+All instructions of a listing read the start's nodes, so each is compared by itself, in a long listing as in a short one. Which line is a
+flow is read off the structure: the start's flows are the nodes 24 to 54 (x1 to x31) and 55 (memory); an instruction that writes rd has, as
+its last line `ite 2 58 RESULT OLD`, the new flow of rd, and a store, as its last line `ite 3 58 RESULT OLD`, that of the memory. OLD must be
+the flow before it. An empty input line stands behind each instruction; its refusal shows where the instruction's lines end.
 
 Exceptions, those of docs/DIFFERENCES.md, each tested to be exactly this one and counted:
 - Mul, Mulw: three lines are ill-sorted and have no value; the product is right. No line of another kind is ill-sorted;
@@ -19,9 +19,9 @@ Exceptions, those of docs/DIFFERENCES.md, each tested to be exactly this one and
 - accesses that leave an aligned word of 8 bytes are not compared (Ld and Sd: that are not aligned).
 
 Then document 01's bench cases about values. Prints counts, then 'no difference' or the differences; the exit status is 0 only without any.
---self-test alters the lines, one at a time, wherever what is compared depends on them: each must be found. Written from document 01, the BTOR2
-paper, SMT-LIB's FixedSizeBitVectors and the manual (20191213); it shares nothing with the project's definitions and code but refusal.py's
-names of the kinds. differential/target/oracle (differential/README.md) can take PROGRAM's place.
+--self-test alters the lines, one at a time, wherever what is compared depends on them: each must be found. Written from document 01, the
+BTOR2 paper, SMT-LIB's FixedSizeBitVectors and the manual (20191213); it shares nothing with the project's definitions and code.
+differential/target/oracle (differential/README.md) can take PROGRAM's place.
 """
 import argparse
 import collections
@@ -459,10 +459,10 @@ def instructions():
     """Each kind with each immediate, then with x0, with equal registers and with others."""
     pcs = itertools.cycle([65536, 0, 2**64 - 4, 2**31 - 4, 2**32, 2**63, 2**64 - 4096, 1])
     for kind in KINDS:
-        registers = [(3, 1, 2, imm) for imm in immediates(kind)]
-        imm = immediates(kind)[-1]
-        registers += [(rd, rs1, rs2, imm) for rd, rs1, rs2 in ((1, 1, 2), (2, 1, 2), (3, 1, 1), (3, 0, 2), (3, 1, 0), (31, 30, 29), (0, 1, 2))]
-        for rd, rs1, rs2, imm in registers:
+        cases = [(3, 1, 2, imm) for imm in immediates(kind)]
+        others = (1, 1, 2), (2, 1, 2), (3, 1, 1), (3, 0, 2), (3, 1, 0), (31, 30, 29), (0, 1, 2)
+        cases += [(*registers, immediates(kind)[-1]) for registers in others]
+        for rd, rs1, rs2, imm in cases:
             if not refusal(kind, rd, rs1, rs2, imm):
                 yield f"{next(pcs)} {kind} {rd} {rs1} {rs2} {imm}"
 
@@ -518,8 +518,8 @@ def printed_each(program, lines):
 
 # Another operator for each. Not sub or or for add: they give the same with 2^63, and with bits that don't meet.
 ANOTHER = {
-    "add": "mul", "sub": "or", "mul": "add", "udiv": "urem", "sdiv": "udiv", "urem": "udiv", "sll": "srl", "srl": "sll", "ult": "eq", "eq": "ult",
-    "and": "or", "or": "and",
+    "add": "mul", "sub": "or", "mul": "add", "udiv": "urem", "sdiv": "udiv", "urem": "udiv", "sll": "srl", "srl": "sll", "ult": "eq",
+    "eq": "ult", "and": "or", "or": "and",
 }  # fmt: skip
 
 

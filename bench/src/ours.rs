@@ -1,5 +1,5 @@
-// Our library, linked from libhost.a and called by the functions of bench/host.h. The host lends all storage; it is taken untouched, so that
-// what a lowering writes is what it is seen to need.
+// Our library, linked from libhost.a and called by the functions of bench/host.h. The host lends all storage; it is taken untouched, so
+// that what a lowering writes is what it is seen to need.
 use crate::measure::{fail, Half, Record};
 
 extern "C" {

@@ -1,5 +1,5 @@
-// The unchanged Rust: translate_to_model over the records, write_model over the lines that they append. As generate_model does, it has a flag
-// for every address beforehand, and gathers the edges of all instructions.
+// The unchanged Rust: translate_to_model over the records, write_model over the lines that they append. As generate_model does, it has a
+// flag for every address beforehand, and gathers the edges of all instructions.
 use super::driver::{parse, single_flows, start};
 use super::*;
 use crate::measure::{fail, Half, Record};
