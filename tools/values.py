@@ -19,9 +19,9 @@ Exceptions, those of docs/DIFFERENCES.md, each tested to be exactly this one and
 - accesses that leave an aligned word of 8 bytes are not compared (Ld and Sd: that are not aligned).
 
 Then document 01's bench cases about values. Prints counts, then 'no difference' or the differences; the exit status is 0 only without any.
---self-test alters the lines, one at a time, wherever what is compared depends on them: each must be found. Written from document 01, the
-BTOR2 paper, SMT-LIB's FixedSizeBitVectors and the manual (20191213); it shares nothing with the project's definitions and code.
-differential/target/oracle (differential/README.md) can take PROGRAM's place.
+--self-test alters the lines, one at a time, wherever what is compared depends on them: each must be found. btor2_values.py evaluates, and
+riscv_manual.py is the manual; nothing is shared with the project's definitions and code. differential/target/oracle (differential/README.md)
+can take PROGRAM's place.
 """
 import argparse
 import collections
@@ -32,220 +32,12 @@ import re
 import subprocess
 import sys
 
+from btor2_values import ARRAY, COUNTER, COUNTER_MAX, FLAG, MEMORY, WORD, WORDS, Array, Node, evaluate, ill_sorted
 from refusal import BRANCHES, KINDS, LOADS, REGISTERS, STORES, UPPER, Listing, refusal
+from riscv_manual import MANUAL, TAKEN, accessed, loaded, signed
 
 HERE = pathlib.Path(__file__).resolve().parent
-WORD = 2**64
 SHOWN = 10  # differences
-
-#
-# BTOR2: a line's sort and value
-#
-
-BIT, WORDS, ARRAY = 1, 2, 3
-MEMORY, COUNTER, COUNTER_MAX, FLAG = 55, 56, 57, 58
-START_SORTS = {20: BIT, 21: BIT, **{n: WORDS for n in range(22, 55)}, MEMORY: ARRAY, COUNTER: ARRAY, COUNTER_MAX: WORDS, FLAG: BIT}
-
-
-class Array:
-    """What an array holds: the cells that were written, over those of a state."""
-
-    def __init__(self, state, written):
-        self.state, self.written = state, written
-
-    def read(self, address):
-        return self.written[address] if address in self.written else self.state(address)
-
-    def write(self, address, value):
-        return Array(self.state, {**self.written, address: value})
-
-
-def negative(a):
-    return a >> 63 == 1
-
-
-def sdiv(a, b):
-    """SMT-LIB's bvsdiv, case by case."""
-    quotient = udiv(-a % WORD if negative(a) else a, -b % WORD if negative(b) else b)
-    return quotient if negative(a) == negative(b) else -quotient % WORD
-
-
-def udiv(a, b):
-    return a // b if b else WORD - 1
-
-
-WORD_OPERATORS = {
-    "add": lambda a, b: (a + b) % WORD,
-    "sub": lambda a, b: (a - b) % WORD,
-    "mul": lambda a, b: a * b % WORD,
-    "udiv": udiv,
-    "sdiv": sdiv,
-    "urem": lambda a, b: a % b if b else a,
-    "sll": lambda a, b: (a << b) % WORD if b < 64 else 0,
-    "srl": lambda a, b: a >> b if b < 64 else 0,
-}
-OPERATORS = {  # of operands' values
-    **WORD_OPERATORS,
-    "read": Array.read,
-    "write": Array.write,
-    "ult": lambda a, b: int(a < b),
-    "eq": lambda a, b: int(a == b),
-    "and": lambda a, b: a & b,
-    "or": lambda a, b: a | b,
-    "ite": lambda c, a, b: a if c else b,
-    "uext": lambda a: a,
-}
-
-
-def well_sorted(operator, sort, operands, number):
-    """Whether BTOR2 lets an operator give this sort from operands of these sorts; number is uext's width or constd's constant."""
-    if operator == "constd":
-        return sort == BIT and number < 2 or sort == WORDS and number < WORD
-    if operator in WORD_OPERATORS:
-        return (sort, operands) == (WORDS, [WORDS, WORDS])
-    if operator in ("and", "or"):
-        return sort in (BIT, WORDS) and operands == [sort, sort]
-    return (operator, sort, operands) in (
-        ("not", BIT, [BIT]), ("not", WORDS, [WORDS]), ("ult", BIT, [WORDS, WORDS]), ("eq", BIT, [BIT, BIT]), ("eq", BIT, [WORDS, WORDS]),
-        ("ite", BIT, [BIT, BIT, BIT]), ("ite", WORDS, [BIT, WORDS, WORDS]), ("ite", ARRAY, [BIT, ARRAY, ARRAY]),
-        ("read", WORDS, [ARRAY, WORDS]), ("write", ARRAY, [ARRAY, WORDS, WORDS]), ("bad", None, [BIT]),
-    ) or (operator, sort, operands, number) == ("uext", WORDS, [BIT], 63)  # fmt: skip
-
-
-class Node:
-    """A node line: identifier, operator, sort, operands' identifiers, and a constant's value or the width that uext adds."""
-
-    def __init__(self, text):
-        nid, self.operator, *rest = text.split()
-        self.nid, self.sort, self.number = int(nid), None, None
-        if self.operator == "bad":
-            rest = rest[:1]  # its name goes
-        else:
-            self.sort = int(rest.pop(0))
-        if self.operator in ("constd", "uext"):
-            self.number = int(rest.pop())
-        self.operands = [int(word) for word in rest]
-
-
-def ill_sorted(nodes):
-    """The identifiers of lines that break BTOR2's sorts."""
-    sorts, ill = dict(START_SORTS), set()
-    for node in nodes:
-        if not well_sorted(node.operator, node.sort, [sorts.get(o) for o in node.operands], node.number):
-            ill.add(node.nid)
-        sorts[node.nid] = node.sort
-    return ill
-
-
-def evaluate(nodes, ill, start):
-    """Every line's value, None where it is ill-sorted or made of what has none."""
-    values = dict(start)
-    for node in nodes:
-        operands = [values.get(o) for o in node.operands]
-        if node.nid in ill or None in operands:
-            value = None
-        elif node.operator == "constd":
-            value = node.number
-        elif node.operator == "not":
-            value = operands[0] ^ (1 if node.sort == BIT else WORD - 1)
-        elif node.operator == "bad":
-            value = None
-        else:
-            value = OPERATORS[node.operator](*operands)
-        values[node.nid] = value
-    return values
-
-
-#
-# The RISC-V manual
-#
-
-
-def signed(value, bits=64):
-    value %= 1 << bits
-    return value - (1 << bits) if value >> (bits - 1) else value
-
-
-def sext(value, bits):
-    """The low bits of a value, sign-extended to a register."""
-    return signed(value, bits) % WORD
-
-
-def quotient(a, b, bits):
-    """DIV and DIVW: round towards zero; by zero -1; what overflows is the dividend."""
-    a, b = signed(a, bits), signed(b, bits)
-    if b == 0:
-        return -1
-    return a // b if (a < 0) == (b < 0) else -(-a // b)  # -2^(bits-1) / -1 wraps back to itself where it is cut to bits
-
-
-SIZE = {"b": 1, "h": 2, "w": 4, "d": 8}  # by the letter of a load or store
-
-
-def accessed(kind, a, imm):
-    """The bytes' addresses."""
-    return [(a + imm + n) % WORD for n in range(SIZE[kind[1]])]
-
-
-def loaded(kind, addresses, byte):
-    value = sum(byte(address) << 8 * n for n, address in enumerate(addresses))
-    return value if kind.endswith("u") else sext(value, 8 * len(addresses))
-
-
-MANUAL = {  # rd of pc, rs1, rs2 and imm
-    "Lui": lambda pc, a, b, imm: sext(imm << 12, 32),
-    "Auipc": lambda pc, a, b, imm: pc + sext(imm << 12, 32),
-    "Jal": lambda pc, a, b, imm: pc + 4,
-    "Jalr": lambda pc, a, b, imm: pc + 4,
-    "Addi": lambda pc, a, b, imm: a + imm,
-    "Sltiu": lambda pc, a, b, imm: int(a < imm % WORD),
-    "Xori": lambda pc, a, b, imm: a ^ imm % WORD,
-    "Ori": lambda pc, a, b, imm: a | imm % WORD,
-    "Andi": lambda pc, a, b, imm: a & imm % WORD,
-    "Slli": lambda pc, a, b, imm: a << imm % 64,
-    "Srli": lambda pc, a, b, imm: a >> imm % 64,
-    "Srai": lambda pc, a, b, imm: signed(a) >> imm % 64,
-    "Addiw": lambda pc, a, b, imm: sext(a + imm, 32),
-    "Slliw": lambda pc, a, b, imm: sext(a << imm % 32, 32),
-    "Srliw": lambda pc, a, b, imm: sext(a % 2**32 >> imm % 32, 32),
-    "Sraiw": lambda pc, a, b, imm: signed(a, 32) >> imm % 32,
-    "Add": lambda pc, a, b, imm: a + b,
-    "Sub": lambda pc, a, b, imm: a - b,
-    "Sll": lambda pc, a, b, imm: a << b % 64,
-    "Sltu": lambda pc, a, b, imm: int(a < b),
-    "Srl": lambda pc, a, b, imm: a >> b % 64,
-    "Sra": lambda pc, a, b, imm: signed(a) >> b % 64,
-    "Or": lambda pc, a, b, imm: a | b,
-    "And": lambda pc, a, b, imm: a & b,
-    "Mul": lambda pc, a, b, imm: a * b,
-    "Div": lambda pc, a, b, imm: quotient(a, b, 64),
-    "Divu": lambda pc, a, b, imm: a // b if b else -1,
-    "Remu": lambda pc, a, b, imm: a % b if b else a,
-    "Addw": lambda pc, a, b, imm: sext(a + b, 32),
-    "Divw": lambda pc, a, b, imm: sext(quotient(a, b, 32), 32),
-    "Subw": lambda pc, a, b, imm: sext(a - b, 32),
-    "Sllw": lambda pc, a, b, imm: sext(a << b % 32, 32),
-    "Mulw": lambda pc, a, b, imm: sext(a * b, 32),
-}
-TAKEN = {
-    "Beq": lambda a, b: a == b,
-    "Bne": lambda a, b: a != b,
-    "Blt": lambda a, b: signed(a) < signed(b),
-    "Bge": lambda a, b: signed(a) >= signed(b),
-    "Bltu": lambda a, b: a < b,
-    "Bgeu": lambda a, b: a >= b,
-}
-
-
-def exception(kind, a, b):
-    """The value that the lines give where docs/DIFFERENCES.md says that it isn't the manual's, and the entry's name."""
-    bits = {"Div": 64, "Divw": 32}.get(kind)
-    if bits and signed(b, bits) == 0 and signed(a, bits) < 0:
-        return 1, f"{kind} of a negative number by 0"
-    if kind == "Divw" and (signed(a, 32), signed(b, 32)) == (-(2**31), -1):
-        return 2**31, "Divw of -2^31 by -1"
-    return None, None
-
 
 #
 # A listing: its instructions, their lines, flows and edges
@@ -344,6 +136,16 @@ def starts():
 #
 # The comparison
 #
+
+
+def exception(kind, a, b):
+    """The value that the lines give where docs/DIFFERENCES.md says that it isn't the manual's, and the entry's name."""
+    bits = {"Div": 64, "Divw": 32}.get(kind)
+    if bits and signed(b, bits) == 0 and signed(a, bits) < 0:
+        return 1, f"{kind} of a negative number by 0"
+    if kind == "Divw" and (signed(a, 32), signed(b, 32)) == (-(2**31), -1):
+        return 2**31, "Divw of -2^31 by -1"
+    return None, None
 
 
 def byte_of(array):
