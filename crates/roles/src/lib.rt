@@ -1,17 +1,26 @@
 // The roles: which line stands for each node and flow of the builder. A call reads its operands from nodes and sets flows.
 use btor2::NodeRef;
 use btor2::get_sort;
+use btor2_list::AT_KIND;
+use btor2_list::AT_SORT;
+use btor2_list::CONST;
+use btor2_list::ITE;
 use btor2_list::Looked;
+use btor2_list::STATE;
+use btor2_list::STRIDE;
 use btor2_list::look;
 use models::Flows;
 use models::Operands;
 use models::Outcome;
 ghost use mathlib.Core.Path.{_≡_};
-ghost use mathlib.Core.Bool.{not};
-ghost use Prim.Native.Nat.{_+_};
-ghost use lib.ListN.{set};
+ghost use mathlib.Core.Bool.{not, true};
+ghost use lib.Dec.{eqb};
+ghost use Prim.Native.Nat.{ℕ, _+_, _/_, _≤_, _<_};
+ghost use lib.ListN.{length, set};
 ghost use Rattle.btor2.specs.Sort.{sortNumber};
-ghost use Rattle.btor2_list.specs.Look.{lookAt};
+ghost use Rattle.btor2_list.specs.declared.Line.{Line};
+ghost use Rattle.btor2_list.specs.Node.{nodeOf};
+ghost use Rattle.btor2_list.specs.Look.{lookAt, seen};
 ghost use Rattle.models.specs.Code.{flowsOf, outcomeOf};
 ghost use Rattle.roles.specs.Roles.{valueNumber, roleSort, rolesFit, registerNode, registerFlow, operandsFor, flowsIn, withFlows, withRegister, withOutcome};
 
@@ -68,21 +77,23 @@ pub fn value_sort(list: &[u64], lines: usize, place: NodeRef) -> u64
     }
 }
 
-// The number of the sort that a role must have.
+// The number of the sort that a role must have. The registers, which most roles are, come first; a table would be built anew at each call.
 fn role_sort(role: usize) -> u64
-    ensures { λ r. ⌜ r ≡ sortNumber (roleSort role) ⌝ }
+    ensures is { λ r. ⌜ r ≡ sortNumber (roleSort role) ⌝ }
+    ensures least { λ r. ⌜ (r ≡ 0 → ⊥) ⌝ }
+    ensures most { λ r. ⌜ r ≤ 3 ⌝ }
 {
-    if role < ZERO_WORD {
-        return 1;
-    }
-    if role < MEMORY {
-        return 2;
-    }
-    if role < MAXIMUM {
-        return 3;
-    }
     if role < MEMORY_FLOW {
-        return 2;
+        if role >= MAXIMUM {
+            return 2;
+        }
+        if role < ZERO_WORD {
+            return 1;
+        }
+        if role < MEMORY {
+            return 2;
+        }
+        return 3;
     }
     if role < MAXIMUM_FLOW {
         return 3;
@@ -97,13 +108,47 @@ fn role_sort(role: usize) -> u64
 pub fn roles_out(list: &[u64], lines: usize, roles: [NodeRef; 79]) -> bool
     ensures { λ r. ⌜ r ≡ not (rolesFit (now (list .entry)) lines 0 roles) ⌝ }
 {
+    let held = list.len() / STRIDE;
     for role in 0..ROLES {
         let place = roles[role];
-        if value_sort(list, lines, place) != role_sort(role) {
+        let sort = role_sort(role);
+        if role_out(list, lines, held, place, sort) {
             return true;
         }
     }
     false
+}
+
+// Whether the value at a place is not of the sort of this number. Most roles are constants, states and ites, whose record says its own sort:
+// these are told without a lookup.
+fn role_out(list: &[u64], lines: usize, held: usize, place: NodeRef, sort: u64) -> bool
+    requires { ⌜ (held ≡ length (now list) / 10) × ((sort ≡ 0 → ⊥) × (sort ≤ 3)) ⌝ }
+    ensures { λ r. ⌜ r ≡ not (eqb (valueNumber (lookAt (now (list .entry)) lines (place .0))) sort) ⌝ }
+{
+    let p = place.0;
+    if p < lines {
+        if p < held {
+            let at = p * STRIDE;
+            if list[at + AT_SORT] == sort {
+                if says_own_sort(list[at + AT_KIND]) {
+                    return false;
+                }
+            }
+        }
+    }
+    value_sort(list, lines, place) != sort
+}
+
+// Whether a record of this kind has the sort that it says, where that is a Bit, a Word or a Memory.
+fn says_own_sort(kind: u64) -> bool
+    ensures { λ r. ⌜ ((l : Line) (s : ℕ) → l .kind ≡ kind → l .sort ≡ s → (s ≡ 0 → ⊥) → s ≤ 3 → r ≡ true → s ≡ valueNumber (seen (nodeOf l))) ⌝ }
+{
+    match kind {
+        CONST => true,
+        ITE => true,
+        STATE => true,
+        _ => false,
+    }
 }
 
 // The node of a register. A field that is no register, which no kind looks at then, gives x0's.

@@ -7,37 +7,47 @@ use Prim.Native.Nat.{_≤_, _-_}
 use native.Mathlib.Omega.{arith}
 use lib.ListN.{length, drop}
 use borrow.Author.Needs.{needs}
-use Rattle.roles.specs.Roles.{rolesFit}
+use Rattle.btor2.specs.Sort.{sortNumber}
+use Rattle.btor2_list.specs.Look.{lookAt}
+use Rattle.roles.specs.Roles.{valueNumber, roleSort, rolesFit, role}
+use Rattle.roles.proofs.Sorts.{out-not, out-is}
 use Rattle.roles.proofs.roles_out.Statement.{statement}
 use Rattle.roles.proofs.roles_out.Tie as tie
 
 abbrev Inv-loop : tie.InvT-loop
-Inv-loop list lines roles role₀ role = (role ≤ 79) × (length roles ≡ 79) × (rolesFit list lines role (drop role roles) ≡ rolesFit list lines 0 roles)
+Inv-loop list lines roles held role₀ role = (role ≤ 79) × (length roles ≡ 79) × (rolesFit list lines role (drop role roles) ≡ rolesFit list lines 0 roles)
 
 abbrev μ-loop : tie.MeasureT-loop
-μ-loop list lines roles role₀ role = 79 - role
+μ-loop list lines roles held role₀ role = 79 - role
 
 loop-holds : tie.Need-loop-holds Inv-loop μ-loop
 loop-holds c = (omega arith, search needs, refl)
 
+role-out-requires : tie.Need-role-out-requires Inv-loop μ-loop
+role-out-requires c κs = (refl, (c .role-sort .ensures .1 .0, c .role-sort .ensures .1 .1))
+
 returns : tie.Need-returns Inv-loop μ-loop
 returns c =
-    let l = c .before .before .before .before .before in
+    let o = c .before in
+    let q = o .before in
+    let l = q .before .before .before in
     let a = l .before .before .args in
     sym (ap not (sym (l .loop .inv .2) ∙ fit-not (now (a .list)) (a .lines) (a .t3) (l .loop .role) (omega arith)
-    (λ e. c .if1 .taken (c .before .before .value-sort .ensures ∙ e ∙ sym (c .before .role-sort .ensures)))))
+    (out-not (o .role-out .result) (valueNumber (lookAt (now (a .list)) (a .lines) (role (a .t3) (l .loop .role) .0))) (q .role-sort .result) (sortNumber (roleSort (l .loop .role))) (o .role-out .ensures) (q .role-sort .ensures .0) (c .if1 .taken))))
 
 loop-less : tie.Need-loop-less Inv-loop μ-loop
 loop-less c = omega arith
 
 loop-again : tie.Need-loop-again Inv-loop μ-loop
 loop-again c =
-    let l = c .before .before .before .before .before in
+    let o = c .before in
+    let q = o .before in
+    let l = q .before .before .before in
     let a = l .before .before .args in (
       omega arith,
       l .loop .inv .1,
       fit-on (now (a .list)) (a .lines) (a .t3) (l .loop .role) (omega arith)
-          (sym (c .before .before .value-sort .ensures) ∙ c .if1 .left ∙ c .before .role-sort .ensures) ∙ l .loop .inv .2,
+          (out-is (o .role-out .result) (valueNumber (lookAt (now (a .list)) (a .lines) (role (a .t3) (l .loop .role) .0))) (q .role-sort .result) (sortNumber (roleSort (l .loop .role))) (o .role-out .ensures) (q .role-sort .ensures .0) (c .if1 .left)) ∙ l .loop .inv .2,
     )
 
 returns-2 : tie.Need-returns-2 Inv-loop μ-loop
@@ -49,4 +59,4 @@ returns-2 c =
 pub roles-out-spec : {M : Type 1} → statement M
 roles-out-spec =
     tie.close
-    (tie.spec Inv-loop μ-loop loop-holds (λ c. search needs) (λ c. search needs) (λ c κs. tt) (λ c κs. tt) returns (λ c. search needs) loop-less loop-again returns-2)
+    (tie.spec Inv-loop μ-loop loop-holds (λ c. search needs) (λ c. search needs) (λ c κs. search needs) role-out-requires returns (λ c. search needs) loop-less loop-again returns-2)
