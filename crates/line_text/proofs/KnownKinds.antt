@@ -1,7 +1,7 @@
 -- Which records the code takes for lines of a known kind and sort. Assumes nothing.
 use Prim.Native.Nat.{ℕ, _≤_, _<_}
 use mathlib.Core.Path.{_≡_, refl, sym, ap, _∙_}
-use mathlib.Core.Bool.{Bool, true, false, cond, _||_}
+use mathlib.Core.Bool.{Bool, true, false, cond, _||_, true≢false}
 use lib.Dec.{eqb, lit<}
 use lib.ListN.{getD}
 use native.Mathlib.Decide.{decLe}
@@ -15,7 +15,6 @@ use Rattle.btor2.specs.Op.{Op, const, read, write, bin, uext, ite, eq, and, or,
 use Rattle.btor2_list.specs.declared.Line.{Line}
 use Rattle.btor2_list.specs.Node.{withSort, opOf}
 use Rattle.line_text.proofs.Each.{Each, none, _▹_, at}
-use Rattle.line_text.proofs.Tests.{no-false}
 use Rattle.line_text.proofs.Shape.{sorts, of-kind}
 
 -- ---- a test of the operator
@@ -39,24 +38,24 @@ isKnown (bad a m) = true
 isKnown unknown = false
 
 pub is-known : (o : Op ℕ) → isKnown o ≡ true → o ≡ unknown → ⊥
-is-known o h e = no-false (sym h ∙ ap isKnown e)
+is-known o h e = true≢false (sym h ∙ ap isKnown e)
 
 is-unknown : (o : Op ℕ) → isKnown o ≡ false → o ≡ unknown
-is-unknown (const s n) h = absurd (no-false h)
-is-unknown (read m a) h = absurd (no-false h)
-is-unknown (write m a v) h = absurd (no-false h)
-is-unknown (bin o a b) h = absurd (no-false h)
-is-unknown (uext s a) h = absurd (no-false h)
-is-unknown (ite s c a b) h = absurd (no-false h)
-is-unknown (eq a b) h = absurd (no-false h)
-is-unknown (and s a b) h = absurd (no-false h)
-is-unknown (or s a b) h = absurd (no-false h)
-is-unknown (not s a) h = absurd (no-false h)
-is-unknown (state s m) h = absurd (no-false h)
-is-unknown (stateInit s a m) h = absurd (no-false h)
-is-unknown (next s a b) h = absurd (no-false h)
-is-unknown (input s m) h = absurd (no-false h)
-is-unknown (bad a m) h = absurd (no-false h)
+is-unknown (const s n) h = absurd (true≢false h)
+is-unknown (read m a) h = absurd (true≢false h)
+is-unknown (write m a v) h = absurd (true≢false h)
+is-unknown (bin o a b) h = absurd (true≢false h)
+is-unknown (uext s a) h = absurd (true≢false h)
+is-unknown (ite s c a b) h = absurd (true≢false h)
+is-unknown (eq a b) h = absurd (true≢false h)
+is-unknown (and s a b) h = absurd (true≢false h)
+is-unknown (or s a b) h = absurd (true≢false h)
+is-unknown (not s a) h = absurd (true≢false h)
+is-unknown (state s m) h = absurd (true≢false h)
+is-unknown (stateInit s a m) h = absurd (true≢false h)
+is-unknown (next s a b) h = absurd (true≢false h)
+is-unknown (input s m) h = absurd (true≢false h)
+is-unknown (bad a m) h = absurd (true≢false h)
 is-unknown unknown h = refl
 
 -- ---- kind by kind

@@ -1,4 +1,3 @@
-pub mod Tests
 pub mod Each
 pub mod Shape
 pub mod KnownKinds

@@ -1,11 +1,10 @@
 -- No kind, or one whose sort is looked at. Assumes nothing.
 use Prim.Native.Nat.{_<_}
-use mathlib.Core.Bool.{true, false}
-use mathlib.Core.Path.{_≡_}
+use mathlib.Core.Bool.{true, false, true≢false}
+use mathlib.Core.Path.{_≡_, sym}
 use native.Mathlib.Omega.{arith}
 use borrow.Author.Tests.{eq-eqb, ne-eqb}
 use Rattle.btor2_list.specs.Node.{opOf}
-use Rattle.line_text.proofs.Tests.{no-true, no-false}
 use Rattle.line_text.proofs.KnownKinds.{own, fixed-known, sort-known, sort-unknown, kind-unknown}
 use borrow.Author.Needs.{needs}
 use Rattle.line_text.proofs.known.Statement.{statement}
@@ -13,10 +12,10 @@ use Rattle.line_text.proofs.known.Tie as tie
 
 returns : tie.Need-returns
 unfolding opOf
-returns c = (λ e. absurd (no-true e), λ e. rw (c .if1 .taken))
+returns c = (λ e. absurd (true≢false (sym e)), λ e. rw (c .if1 .taken))
 
 returns-2 : tie.Need-returns-2
-returns-2 c = (λ e. absurd (no-true e), λ e. kind-unknown (c .before .before .args .line) (c .if2 .taken))
+returns-2 c = (λ e. absurd (true≢false (sym e)), λ e. kind-unknown (c .before .before .args .line) (c .if2 .taken))
 
 returns-3 : tie.Need-returns-3
 returns-3 c =
@@ -34,7 +33,7 @@ returns-4 c =
     let l = e .before .before .args .line in
     let below : l .kind < 23 = omega (arith, e .if2 .left) in
     let o : own (l .kind) ≡ false = rw (ne-eqb _ _ (c .before .if3 .left), ne-eqb _ _ (c .if4 .taken)) in
-    (λ t. fixed-known l (e .before .if1 .left) below o, λ f. absurd (no-false f))
+    (λ t. fixed-known l (e .before .if1 .left) below o, λ f. absurd (true≢false f))
 
 returns-5 : tie.Need-returns-5
 returns-5 c =

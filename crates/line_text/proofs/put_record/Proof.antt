@@ -1,4 +1,6 @@
 -- The rows that the tables make. Assumes nothing.
+use Prim.Native.Nat.{ℕ}
+use mathlib.Core.Path.{_≡_}
 use native.Mathlib.Omega.{arith}
 use denote.Ref.{now}
 use Rattle.text.proofs.Laws.{then, put-as}
@@ -18,16 +20,23 @@ array-read-fixed c = let s = c .before .before .before in kind-below (s .args .l
 array-read-n : tie.Need-array-read-n
 array-read-n c = let s = c .before .before .before in kind-below (s .args .line) (s .pre)
 
-returns : tie.Need-returns
-returns c f ea eb ec =
-    let m = c .before .before .before in
+-- what the calls before the first row found
+found : (m : tie.After-put-named) (f : ℕ → ℕ) → let p4 = m .before .before in
+    let p3 = p4 .before .before in
+    let p2 = p3 .before in
+    let p1 = p2 .before in
+    let s = p1 .before .before .before .before in
+    let a = s .args in
+    f (a .line .op1 .0) ≡ a .a .0 → f (a .line .op2 .0) ≡ a .b .0 → f (a .line .op3 .0) ≡ a .c .0
+    → Found (printedName (now (a .host)) (now (a .ours))) f (a .line) (a .a .0) (a .b .0) (a .c .0) (p1 .pick .result) (p2 .pick2 .result) (p3 .pick3 .result) (p4 .pick4 .result) (p4 .before .padding .result)
+found m f ea eb ec =
     let p4 = m .before .before in
     let p3 = p4 .before .before in
     let p2 = p3 .before in
     let p1 = p2 .before in
     let s = p1 .before .before .before .before in
     let a = s .args in
-    let found : Found (printedName (now (a .host)) (now (a .ours))) f (a .line) (a .a .0) (a .b .0) (a .c .0) (p1 .pick .result) (p2 .pick2 .result) (p3 .pick3 .result) (p4 .pick4 .result) (p4 .before .padding .result) = record {
+    record {
       known = s .pre;
       first = ea;
       second = eb;
@@ -38,31 +47,15 @@ returns c f ea eb ec =
       z-is = p4 .pick4 .ensures;
       padded = p4 .before .padding .ensures;
       below = kind-below (a .line) (s .pre);
-    } in
-    put-as (m .put-named .ensures) (row-is (printedName (now (a .host)) (now (a .ours))) f found (λ e. absurd (c .if1 .taken e)))
+    }
+
+returns : tie.Need-returns
+returns c f ea eb ec =
+    let m = c .before .before .before in put-as (m .put-named .ensures) (row-is _ f (found m f ea eb ec) (λ e. absurd (c .if1 .taken e)))
 
 returns-2 : tie.Need-returns-2
 returns-2 c f ea eb ec =
-    let m = c .before .before .before .before in
-    let p4 = m .before .before in
-    let p3 = p4 .before .before in
-    let p2 = p3 .before in
-    let p1 = p2 .before in
-    let s = p1 .before .before .before .before in
-    let a = s .args in
-    let found : Found (printedName (now (a .host)) (now (a .ours))) f (a .line) (a .a .0) (a .b .0) (a .c .0) (p1 .pick .result) (p2 .pick2 .result) (p3 .pick3 .result) (p4 .pick4 .result) (p4 .before .padding .result) = record {
-      known = s .pre;
-      first = ea;
-      second = eb;
-      third = ec;
-      sort = p1 .pick .ensures;
-      x-is = p2 .pick2 .ensures;
-      y-is = p3 .pick3 .ensures;
-      z-is = p4 .pick4 .ensures;
-      padded = p4 .before .padding .ensures;
-      below = kind-below (a .line) (s .pre);
-    } in
-    put-as (m .put-named .ensures) (row-is (printedName (now (a .host)) (now (a .ours))) f found (λ e. c .if2 .taken))
+    let m = c .before .before .before .before in put-as (m .put-named .ensures) (row-is _ f (found m f ea eb ec) (λ e. c .if2 .taken))
 
 returns-3 : tie.Need-returns-3
 returns-3 c f ea eb ec =
@@ -70,26 +63,9 @@ returns-3 c f ea eb ec =
     let w = r .before .before .before in
     let e = w .before .before in
     let m = e .before .before .before in
-    let p4 = m .before .before in
-    let p3 = p4 .before .before in
-    let p2 = p3 .before in
-    let p1 = p2 .before in
-    let s = p1 .before .before .before .before in
-    let a = s .args in
-    let found : Found (printedName (now (a .host)) (now (a .ours))) f (a .line) (a .a .0) (a .b .0) (a .c .0) (p1 .pick .result) (p2 .pick2 .result) (p3 .pick3 .result) (p4 .pick4 .result) (p4 .before .padding .result) = record {
-      known = s .pre;
-      first = ea;
-      second = eb;
-      third = ec;
-      sort = p1 .pick .ensures;
-      x-is = p2 .pick2 .ensures;
-      y-is = p3 .pick3 .ensures;
-      z-is = p4 .pick4 .ensures;
-      padded = p4 .before .padding .ensures;
-      below = kind-below (a .line) (s .pre);
-    } in
+    let s = m .before .before .before .before .before .before .before .before .before .before in
     put-as (then (s .good .0 .0) (m .put-named .ensures) (r .put-row .ensures))
-    (init-is (printedName (now (a .host)) (now (a .ours))) f found (w .wrapping-add-u64 .result) (w .wrapping-add-u64 .ensures) (e .if1 .left) (w .before .if2 .left))
+    (init-is _ f (found m f ea eb ec) (w .wrapping-add-u64 .result) (w .wrapping-add-u64 .ensures) (e .if1 .left) (w .before .if2 .left))
 
 pub put-record-spec : {M : Type 1} → statement M
 put-record-spec =
