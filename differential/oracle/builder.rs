@@ -3,4 +3,4 @@
 include!(concat!(env!("UNICORN_SRC"), "/src/unicorn/builder.rs"));
 
 mod driver;
-pub use driver::run;
+pub use driver::{node_lines_of, run};

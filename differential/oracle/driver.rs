@@ -254,6 +254,13 @@ fn node_lines<'a>(text: &'a str, header: &str) -> io::Result<&'a str> {
         .ok_or(io::Error::other("write_model: unknown header or trailer"))
 }
 
+// The lines that write_model prints for these nodes alone.
+pub fn node_lines_of(nodes: &[NodeRef]) -> io::Result<String> {
+    let empty = printed(&[])?;
+    let header = empty.strip_suffix(TRAILER).ok_or(io::Error::other("write_model: unknown trailer"))?;
+    Ok(node_lines(&printed(nodes)?, header)?.to_string())
+}
+
 static QUIET: AtomicBool = AtomicBool::new(false); // while the Rust runs, a panic's message is not written
 
 fn panics(b: &mut ModelBuilder, inst: Instruction) -> bool {

@@ -1,17 +1,26 @@
+mod nodes;
 mod unicorn;
 
+const USAGE: &str = "usage: oracle [--flows] < lines, or oracle --nodes FROM COUNT < records";
+
+fn usage() -> ! {
+    eprintln!("{}", USAGE);
+    std::process::exit(2)
+}
+
 fn main() {
-    let mut flows = false;
-    for argument in std::env::args().skip(1) {
-        match argument.as_str() {
-            "--flows" => flows = true,
-            _ => {
-                eprintln!("usage: oracle [--flows] < lines");
-                std::process::exit(2)
-            }
-        }
-    }
-    if let Err(error) = unicorn::builder::run(flows) {
+    let arguments: Vec<String> = std::env::args().skip(1).collect();
+    let words: Vec<&str> = arguments.iter().map(String::as_str).collect();
+    let outcome = match words[..] {
+        [] => unicorn::builder::run(false),
+        ["--flows"] => unicorn::builder::run(true),
+        ["--nodes", from, count] => match (from.parse(), count.parse()) {
+            (Ok(from), Ok(count)) => nodes::run(from, count),
+            _ => usage(),
+        },
+        _ => usage(),
+    };
+    if let Err(error) = outcome {
         eprintln!("oracle: {}", error);
         std::process::exit(2)
     }

@@ -1,0 +1,143 @@
+// Prints lines of a list that the commands of standard input fill, a command a line:
+//   1 PLACE NID KIND SORT OP1 OP2 OP3 IMM AREA AT LEN   puts a record into a list of 128 records and three words
+//   2 LINES FROM COUNT ROOM                             prints a run into an output of ROOM bytes, all full stops before
+// Command 2 writes the length and the text, or the refusal, and then how many full stops are left behind the text.
+// tools/print_cases.py made the commands and what is to be written; the text is what the unchanged Rust prints.
+use btor2::Name;
+use btor2::Nid;
+use btor2::NodeRef;
+use btor2_list::Line;
+use decimal_text::read_decimal;
+use libc::STDIN_FILENO;
+use libc::STDOUT_FILENO;
+use print::Printed;
+
+fn main() {
+    let mut buffer = [0u8; 262144];
+    let n = io::read_full(STDIN_FILENO, &mut buffer);
+    let mut list = [0u64; 1283];
+    run(&buffer[..n], &mut list);
+}
+
+fn run(text: &[u8], list: &mut [u64]) {
+    let mut at = 0;
+    while at < text.len() {
+        let next = run_line(text, at, list);
+        if next <= at {
+            return;
+        }
+        at = next;
+    }
+}
+
+// One command; the answer is where the next one starts.
+fn run_line(text: &[u8], at: usize, list: &mut [u64]) -> usize {
+    let command = read_decimal(text, at);
+    let from = command.next;
+    let which = command.value;
+    if which == 1 {
+        return run_put(text, from, list);
+    }
+    run_print(text, from, list)
+}
+
+fn run_put(text: &[u8], at: usize, list: &mut [u64]) -> usize {
+    let place = read_decimal(text, at);
+    let nid = read_decimal(text, place.next);
+    let kind = read_decimal(text, nid.next);
+    let sort = read_decimal(text, kind.next);
+    let op1 = read_decimal(text, sort.next);
+    let op2 = read_decimal(text, op1.next);
+    let op3 = read_decimal(text, op2.next);
+    let imm = read_decimal(text, op3.next);
+    let area = read_decimal(text, imm.next);
+    let from = read_decimal(text, area.next);
+    let len = read_decimal(text, from.next);
+    let line = Line {
+        nid: Nid(nid.value),
+        kind: kind.value,
+        sort: sort.value,
+        op1: NodeRef(op1.value as usize),
+        op2: NodeRef(op2.value as usize),
+        op3: NodeRef(op3.value as usize),
+        imm: imm.value,
+        name: Name {
+            area: area.value,
+            at: from.value,
+            len: len.value,
+        },
+    };
+    btor2_list::put(list, NodeRef(place.value as usize), line);
+    len.next
+}
+
+fn run_print(text: &[u8], at: usize, list: &[u64]) -> usize {
+    let lines = read_decimal(text, at);
+    let from = read_decimal(text, lines.next);
+    let count = read_decimal(text, from.next);
+    let room = read_decimal(text, count.next);
+    let mut out = [46u8; 16384];
+    lend(
+        list,
+        lines.value as usize,
+        from.value as usize,
+        count.value as usize,
+        room.value as usize,
+        &mut out,
+    );
+    room.next
+}
+
+// The first `room` bytes are the output.
+fn lend(list: &[u64], lines: usize, from: usize, count: usize, room: usize, out: &mut [u8]) {
+    if room <= out.len() {
+        show_run(list, lines, from, count, &mut out[..room]);
+    }
+}
+
+fn show_run(list: &[u64], lines: usize, from: usize, count: usize, out: &mut [u8]) {
+    let host = b"x1x31 counter-max\xce\xbb";
+    let ours = b"flagunimplemented-pc-10000";
+    match print::print(list, lines, host, ours, from, count, out) {
+        Printed::Refused(number) => show_refused(number, out),
+        Printed::Written(n) => show_written(n, out),
+    }
+}
+
+fn show_refused(number: u64, out: &[u8]) {
+    io::write_all(STDOUT_FILENO, b"refused ");
+    show(number, b"\n");
+    show_left(out, 0);
+}
+
+fn show_written(n: usize, out: &[u8]) {
+    io::write_all(STDOUT_FILENO, b"written ");
+    show(n as u64, b"\n");
+    show_text(n, out);
+    show_left(out, n);
+}
+
+fn show_text(n: usize, out: &[u8]) {
+    if n <= out.len() {
+        io::write_all(STDOUT_FILENO, &out[..n]);
+    }
+}
+
+// How many bytes from a place on are full stops.
+fn show_left(out: &[u8], from: usize) {
+    let mut n: u64 = 0;
+    let mut i = from;
+    while i < out.len() {
+        if out[i] == 46 {
+            n = std::num::wrapping_add_u64(n, 1);
+        }
+        i += 1;
+    }
+    io::write_all(STDOUT_FILENO, b"left ");
+    show(n, b"\n");
+}
+
+fn show(n: u64, after: &[u8]) {
+    io::print_decimal(STDOUT_FILENO, n);
+    io::write_all(STDOUT_FILENO, after);
+}
