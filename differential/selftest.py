@@ -109,6 +109,19 @@ test("256 bytes", run(["0 " + "A" * 246 + " 1 1 1 0"]), ["; panic"])
 test("no last newline", subprocess.run([ORACLE], input=b"0 Lui 1 0 0 1", capture_output=True).stdout,
      b"59 constd 2 4096\n60 ite 2 58 59 24\n; in 4 from 0 regular -\n")
 
+# A node of each kind, from its record.
+NODES = ["20 1 1 0 0 0 1 -", "21 1 2 0 0 0 18446744073709551615 -", "22 19 3 0 0 0 0 =memory", "23 2 0 2 1 0 0 -", "24 3 0 2 1 3 0 -"]
+NODES += [f"{21 + kind} {kind} 0 1 3 0 0 -" for kind in range(4, 12)] + ["33 12 0 1 3 0 0 -", "34 13 11 1 0 0 0 -", "35 14 2 0 1 3 0 -"]
+NODES += ["36 15 0 1 3 0 0 -", "37 16 1 0 0 0 0 -", "38 17 2 1 3 0 0 -", "39 18 1 0 0 0 0 -", "40 19 2 1 0 0 1 -", "42 19 17 0 0 0 0 =",
+          "43 20 2 20 3 0 0 -", "44 21 12 0 0 0 0 =two bytes", "45 22 0 0 0 0 0 -", "46 22 0 0 0 0 0 =b"]
+TEXT = ["20 constd 1 1", "21 constd 2 18446744073709551615", "22 state 3 memory", "23 read 2 22 21", "24 write 3 22 21 23"]
+TEXT += [f"{25 + n} {word} 2 21 23" for n, word in enumerate("add sub mul udiv sdiv urem sll srl".split())]
+TEXT += ["33 ult 1 21 23", "34 uext 2 21 56", "35 ite 2 20 21 23", "36 eq 1 21 23", "37 and 1 20 20", "38 or 2 21 23", "39 not 1 20",
+         "40 state 2 ?", "41 init 2 40 21", "42 state 17 ", "43 next 2 40 23", "44 input 12 two bytes", "45 bad 20 ?", "46 bad 20 b"]
+test("nodes", run(NODES, "--nodes", "0", str(len(NODES))), TEXT)
+test("a run of nodes", run(NODES, "--nodes", "19", "3"), TEXT[19:23])
+test("no nodes", run(NODES, "--nodes", "25", "0"), [])
+
 # Generated lines: identifiers rise by one, and a refused line leaves no trace.
 for seed in range(1, 6):
     more = [] if seed < 5 else ["--negative-amounts"]

@@ -3,3 +3,4 @@ pub mod Shape
 pub mod KnownKinds
 pub mod Listed
 pub mod Runs
+mod Examples

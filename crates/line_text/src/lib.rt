@@ -266,11 +266,15 @@ pub fn put_run<'a>(
 ) -> usize
     ensures { λ r. ⌜ Put (now (out .entry)) at (runText (now (host .entry)) (now (ours .entry)) (nodes (now (list .entry)) lines) from count) (now (out .exit)) r ⌝ }
 {
+    let held = list.len() / btor2_list::STRIDE;
     let mut p = at;
     let mut place = from;
     let mut left = count;
     while 0 < left {
         if lines <= place {
+            return p;
+        }
+        if held <= place {
             return p;
         }
         p = put_line(out, p, list, lines, host, ours, NodeRef(place));
