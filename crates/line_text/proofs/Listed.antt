@@ -35,20 +35,23 @@ module _ (ws : List ℕ) (n p : ℕ) where
   pub length-nodes : length (nodes ws n) ≡ min n (length ws / stride)
   length-nodes = view-length ws _
 
-  pub inside : p < n → p < length ws / stride → nodeAt (nodes ws n) p ≡ nodeOf (lineAt ws (p * stride))
+  inside : p < n → p < length ws / stride → nodeAt (nodes ws n) p ≡ nodeOf (lineAt ws (p * stride))
   inside h k = view-at ws _ _ p (omega arith)
 
-  pub outside : length (nodes ws n) ≤ p → nodeAt (nodes ws n) p ≡ node 0 unknown
+  outside : length (nodes ws n) ≤ p → nodeAt (nodes ws n) p ≡ node 0 unknown
   outside h = List·getD-eq-default (nodes ws n) (node 0 unknown) h
+
+  pub nid-outside : length (nodes ws n) ≤ p → nidAt (nodes ws n) p ≡ 0
+  nid-outside h = nid (outside h)
 
   pub look-nid : nidOf (lookAt ws n p) ≡ nidAt (nodes ws n) p
   look-nid = go (decLe n p) (decLe (length ws / stride) p)
     where
       go : Dec (n ≤ p) → Dec (length ws / stride ≤ p) → nidOf (lookAt ws n p) ≡ nidAt (nodes ws n) p
-      go (yes h) k = rw (le-ltb p n h) (nid (sym (outside (omega (arith, length-nodes)))))
+      go (yes h) k = rw (le-ltb p n h) (sym (nid-outside (omega (arith, length-nodes))))
       go (no h) (yes k) =
           let l : p < n = omega arith in
-          rw (lt-ltb p n l, le-ltb p (length ws / stride) k) (nid (sym (outside (omega (arith, length-nodes)))))
+          rw (lt-ltb p n l, le-ltb p (length ws / stride) k) (sym (nid-outside (omega (arith, length-nodes))))
       go (no h) (no k) =
           let x = nodeOf (lineAt ws (p * stride)) in
           let l : p < n = omega arith in

@@ -17,6 +17,7 @@ use Rattle.node_text.specs.Row.{written}
 
 -- ---- a line whose operands are identifiers
 
+-- `writeln!(out, "{} WORD {} ..", nid, numbers ..)`, and with one number and a name
 abbrev pub plain : ℕ → String → List ℕ → List ℕ
 plain nid word numbers = written nid (ascii word) numbers false []
 
@@ -34,9 +35,9 @@ binWord sll = "sll"
 binWord srl = "srl"
 binWord ult = "ult"
 
--- `names` gives what is printed for a name. The Rust prints uext's operand `as u32` and an init's identifier as a u64 sum: of identifiers
--- that pass refusal 9 the first changes nothing and the second does not wrap. A line of unknown kind or sort, which refusal 11 rules out,
--- has no text; nor has the Rust one for a uext from Memory, which is refused too.
+-- `names` gives what is printed for a name. The Rust prints uext's operand `as u32` and an init's identifier as a sum of u64: for
+-- identifiers that pass refusal 9 the one changes nothing and the other does not wrap (crates/print/proofs/Identifiers). A line of unknown
+-- kind or sort has no text; it is refused with 11, and so is a uext from Memory, at which the Rust panics.
 unfoldable pub lineText : (Name → List ℕ) → ℕ → Op ℕ → List ℕ
 lineText names nid (const s imm) = plain nid "constd" (sortNumber s ∷ imm ∷ [])
 lineText names nid (read m a) = plain nid "read" (2 ∷ m ∷ a ∷ [])

@@ -27,55 +27,55 @@ ghost use Rattle.line_text.specs.Line.{lineText, printedName, nodes, nod
 // What stands behind the word of each kind's line, by the kind's number. The first number is a sort, which is fixed or, where 0 stands
 // here, the record's own; Bad's is its operand. The lines with one number have a name behind it.
 const SORTS: [u64; 23] = [
-    0,
-    0,
-    2,
-    3,
-    2,
-    2,
-    2,
-    2,
-    2,
-    2,
-    2,
-    2,
-    1,
-    2,
-    0,
-    1,
-    0,
-    0,
-    0,
-    0,
-    0,
-    0,
-    1,
+    0, // init, which is no kind
+    0, // Const
+    2, // Read
+    3, // Write
+    2, // Add
+    2, // Sub
+    2, // Mul
+    2, // Divu
+    2, // Div
+    2, // Rem
+    2, // Sll
+    2, // Srl
+    1, // Ult
+    2, // Ext
+    0, // Ite
+    1, // Eq
+    0, // And
+    0, // Or
+    0, // Not
+    0, // State
+    0, // Next
+    0, // Input
+    1, // Bad
 ];
 
 const NUMBERS: [u8; 23] = [
-    0,
-    2,
-    3,
-    4,
-    3,
-    3,
-    3,
-    3,
-    3,
-    3,
-    3,
-    3,
-    3,
-    3,
-    4,
-    3,
-    3,
-    3,
-    2,
-    1,
-    3,
-    1,
-    1,
+    0, // init, which is no kind
+    2, // Const
+    3, // Read
+    4, // Write
+    3, // Add
+    3, // Sub
+    3, // Mul
+    3, // Divu
+    3, // Div
+    3, // Rem
+    3, // Sll
+    3, // Srl
+    3, // Ult
+    3, // Ext
+    4, // Ite
+    3, // Eq
+    3, // And
+    3, // Or
+    2, // Not
+    1, // State
+    3, // Next
+    1, // Input
+    1, // Bad
 ];
 
 fn pick(test: bool, x: u64, y: u64) -> u64
