@@ -1,23 +1,40 @@
 -- Demand 3. Assumes nothing.
-use Prim.Native.Nat.{ℕ, _≤_}
-use mathlib.Core.Path.{_≡_, refl, sym, _∙_}
+use Prim.Native.Nat.{ℕ, _*_, _≤_}
+use mathlib.Core.Path.{_≡_, refl, sym, _∙_, subst}
 use mathlib.Core.List.{List, [], _∷_}
 use native.Mathlib.Omega.{arith}
+use lib.Dec.{T}
 use lib.ListN.{length}
 use Rattle.btor2.specs.Value.{Env, value}
-use Rattle.demand.specs.Calls.{Held, linesIn, Request, run}
+use Rattle.btor2_list.specs.Record.{stride}
+use Rattle.lowering_refusals.specs.declared.Room.{Room}
+use Rattle.lowering_refusals.specs.Refusal.{roomOf}
+use Rattle.start.proofs.Accepted.{Accepted, accepted}
+use Rattle.demand.specs.Calls.{Held, operators, linesIn, Request, run}
 use Rattle.demand.specs.Demand3.{AcceptedStart, registerNodeValue, memoryNodeValue, registerFlowValue, memoryFlowValue, effectOf, registersBy, memoryBy, trueOnes, Demand3}
 use Rattle.demand.proofs.RoleSets.{fit-given}
 use Rattle.demand.proofs.Step.{Sound}
 use Rattle.demand.proofs.Run.{sound-run, registersAll, memoryAll, register-at, memory-at, flows-run}
 
-sound-start : (h : Held) → AcceptedStart h → Sound h
-unfolding Sound
-sound-start h s = record {
-  stored = s .stored;
-  sorted = s .sorted;
-  roles = record { size = s .given; fit = fit-given (h .list) (h .state .tally .lines) (h .state .roles) (s .stored) (s .given) (s .roles) };
-}
+-- what the start's check gives: no test of 9 to 13 applies
+module _ (h : Held) (s : AcceptedStart h) where
+  abbrev room : Room
+  room = roomOf (length (h .list)) (length (h .names)) (length (s .edges)) (length (s .dispatches)) (length (s .bads))
+
+  abbrev passed : Accepted (h .list) (length (s .host)) room (h .state)
+  passed = accepted (h .list) (length (s .host)) room (h .state) (s .accepts)
+
+  stored : h .state .tally .lines * stride ≤ length (h .list)
+  unfolding roomOf
+  stored = omega (arith, passed .counts .lines)
+
+  sound-start : Sound h
+  unfolding Sound operators
+  sound-start = record {
+    stored = stored;
+    sorted = subst T (sym (passed .sorts)) tt;
+    roles = record { size = s .given; fit = fit-given (h .list) (h .state .tally .lines) (h .state .roles) stored (s .given) (subst T (sym (passed .roles)) tt) };
+  }
 
 -- of at most one call
 module _ (env : Env) (h : Held) where

@@ -16,6 +16,9 @@ use Rattle.btor2.specs.Value.{Env, number, binary, evalOp, values, value}
 use Rattle.btor2_list.specs.Record.{words, lineAt}
 use Rattle.btor2_list.specs.Node.{lineOf, opOf, noName}
 use Rattle.btor2_list.specs.View.{view}
+use Rattle.list_check.specs.Lines.{some}
+use Rattle.list_check.specs.Formed.{opUnformed, unformed}
+use Rattle.nid_check.specs.Identifiers.{taken, rising, nidsOut}
 use Rattle.riscv.specs.Kind as K
 use Rattle.roles.specs.Roles.{ref, rolesFit, operandsFor, flowsIn, withFlows}
 use Rattle.bitvec.specs.Smtlib as Smt
@@ -27,6 +30,7 @@ use Rattle.models.specs.Kinds.{constant, summed, modelBranch}
 use Rattle.models.specs.Model.{upper, constantOf, regFlowIte, unimplemented, translate}
 use Rattle.riscv.specs.Refusal.{refusal}
 use Rattle.lowering_refusals.specs.Refusal.{roomOf, countsOut, flagOut, roomOut, linesAndEdges, refusalOf}
+use Rattle.start.specs.Start.{startCountsOut, startRefusal}
 use Rattle.lowering.specs.Lowering.{programOf, settled, countsAfter, lowering}
 use Rattle.demand.specs.Calls.{Held, operators, Request, Call, lower, inFront, lentFor, stateFor, answerTo, accepted, step, run}
 use Rattle.riscv.specs.Manual.{manual}
@@ -55,9 +59,10 @@ start = record {
   state = record { tally = record { lines = 7; nid = 27 }; counts = record { names = 0; edges = 0; dispatches = 0; bads = 0 }; roles = given };
 }
 
+-- the start's check, computed; the host lends nothing else
 accepted-start : AcceptedStart start
-unfolding start stored start-lines given operators view lineAt opOf meetsSortRule judged walk judge rule isStateOp carried mapOp allRight rolesFit
-accepted-start = record { most = lit≤ tt; identifier = lit≤ tt; stored = lit≤ tt; sorted = tt; given = refl; roles = tt }
+unfolding start stored start-lines given roomOf startRefusal startCountsOut view lineAt opOf taken nidsOut rising unformed some opUnformed meetsSortRule judged walk judge rule isStateOp carried mapOp allRight rolesFit
+accepted-start = record { host = []; edges = []; dispatches = []; bads = []; accepts = refl; given = refl }
 
 -- room for 4 edges, and for some words of the list
 ask : ℕ → ℕ → ℕ → ℕ → ℕ → ℕ → ℕ → ℕ → Request

@@ -2,7 +2,7 @@
 -- Divw, every line meets the sort rule; and where at most one accepted call that needs a flag has it true, each register flow and the memory
 -- flow have the manual's value where that call writes them, and their starting value elsewhere. The quoted words are document 01's ("Start,
 -- storage, evaluation"), and each hypothesis has a name.
-use Prim.Native.Nat.{ℕ, _*_, _^_, _≤_, _<_}
+use Prim.Native.Nat.{ℕ, _^_, _≤_, _<_}
 use mathlib.Core.Path.{_≡_}
 use mathlib.Core.Bool.{Bool, cond, _&&_, not}
 use mathlib.Core.List.{List, [], _∷_}
@@ -10,29 +10,28 @@ use lib.Dec.{T, eqb}
 use lib.ListN.{length}
 use Rattle.btor2.specs.SortRule.{meetsSortRule}
 use Rattle.btor2.specs.Value.{Value, Env, value}
-use Rattle.btor2_list.specs.Record.{stride}
 use Rattle.instruction_class.specs.Class.{class, needsFlag}
 use Rattle.riscv.specs.Kind.{Kind, kindAt}
 use Rattle.riscv.specs.Manual.{Effect, nothing, setsRd, setsMemory, manual}
 use Rattle.riscv.specs.Memory.{bytesOf, cellsWith}
-use Rattle.roles.specs.Roles.{role, registerNode, registerFlow, rolesFit}
+use Rattle.roles.specs.Roles.{role, registerNode, registerFlow}
+use Rattle.lowering_refusals.specs.Refusal.{roomOf}
+use Rattle.start.specs.Start.{startRefusal}
 use Rattle.meaning.specs.Access.{InOneWord, excluded}
 use Rattle.demand.specs.Calls.{Held, linesIn, Request, Call, lower, accepted, step, run}
 
 -- ---- what is asked of the start and of the calls
 
--- what the start's check accepts
+-- the start's check, `check_start`, accepts it: "A start is checked 9 to 13", and none applies. With the list and our name area the host lends
+-- its own name area, and edge, dispatch and bad lists: any.
 pub record AcceptedStart (h : Held) : Type 0 where
-  -- "A list holds at most 1,048,576 lines and a start's next identifier is at most 2^31"
-  pub most : h .state .tally .lines ≤ 1048576
-  pub identifier : h .state .tally .nid ≤ 2 ^ 31
-  -- the lent words hold the lines
-  pub stored : h .state .tally .lines * stride ≤ length (h .list)
-  -- "Sort rule (BTOR2)"
-  pub sorted : T (meetsSortRule (linesIn h))
-  -- "gives the roles": 79 of them, each a value line of its sort
+  pub host : List ℕ
+  pub edges : List ℕ
+  pub dispatches : List ℕ
+  pub bads : List ℕ
+  pub accepts : startRefusal (h .list) (length host) (roomOf (length (h .list)) (length (h .names)) (length edges) (length dispatches) (length bads)) (h .state) ≡ 0
+  -- what the code's type of the roles gives: an array of 79
   pub given : length (h .state .roles) ≡ 79
-  pub roles : T (rolesFit (h .list) (h .state .tally .lines) 0 (h .state .roles))
 
 -- "any records": an immediate is a word of 64 bits
 abbrev pub Records : List Call → Type 0
