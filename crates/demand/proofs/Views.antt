@@ -30,7 +30,7 @@ unfolding operators
 operators-length ws n = length-map (view ws n) (λ line. line .op) ∙ view-length ws n
 
 -- only the words in use count
-view-agree : (ws vs : List ℕ) (n : ℕ) → ((j : ℕ) → j < n * stride → getD ws j 0 ≡ getD vs j 0) → view ws n ≡ view vs n
+pub view-agree : (ws vs : List ℕ) (n : ℕ) → ((j : ℕ) → j < n * stride → getD ws j 0 ≡ getD vs j 0) → view ws n ≡ view vs n
 unfolding view
 view-agree ws vs zero h = refl
 view-agree ws vs (suc n) h =

@@ -1,0 +1,115 @@
+-- The listing's own start: its lines, that the start's check accepts it, and demand 3 from it. Assumes nothing.
+use Prim.Native.Nat.{ℕ, _≤_}
+use mathlib.Core.Path.{_≡_, refl, _∙_, ap}
+use mathlib.Core.Bool.{Bool, false, not}
+use mathlib.Core.List.{List, [], _∷_, _++_}
+use native.Mathlib.Omega.{arith}
+use borrow.Author.Tests.{le-ltb}
+use lib.Dec.{lit≤}
+use lib.ListN.{length, length-append, drop, length-drop}
+use Rattle.btor2.specs.Op.{mapOp, carried}
+use Rattle.btor2.specs.Walk.{walk}
+use Rattle.btor2.specs.SortRule.{rule, isStateOp, judge, judged, allRight, meetsSortRule}
+use Rattle.btor2_list.specs.Record.{lineAt}
+use Rattle.btor2_list.specs.Node.{Node, opOf}
+use Rattle.btor2_list.specs.View.{view}
+use Rattle.list_check.specs.Lines.{ops, some}
+use Rattle.list_check.specs.Formed.{opUnformed, unformed}
+use Rattle.nid_check.specs.Identifiers.{taken, rising, nidsOut}
+use Rattle.riscv.specs.Refusal.{first}
+use Rattle.roles.specs.Roles.{rolesFit}
+use Rattle.lowering_refusals.specs.declared.Room.{Room}
+use Rattle.lowering_refusals.specs.Refusal.{roomOf}
+use Rattle.lowering_laws.specs.Lines.{numbered}
+use Rattle.start.specs.Start.{startCountsOut, startRefusal}
+use Rattle.listing_start.specs.Start.{names, joined, hostArea, named, states, startOps, records, startWords, startIn, fromOn, startRoles, startState}
+use Rattle.demand.proofs.Demand3.{demand-3}
+use Rattle.listing_laws.specs.Accepted.{StartLines, StartAccepted, listingStart, StartMeans}
+use Rattle.listing_laws.proofs.Words.{view-front, roles-front}
+
+-- ---- computed over the start's words alone
+
+whole : length startWords ≡ 390
+unfolding names joined named states startOps records startWords
+whole = refl
+
+lines : view startWords 39 ≡ numbered 20 startOps
+unfolding names joined named states startOps records startWords view lineAt opOf numbered
+lines = refl
+
+rising-nids : nidsOut 59 (taken (numbered 20 startOps)) ≡ false
+unfolding names joined named states startOps numbered taken nidsOut rising
+rising-nids = refl
+
+formed : (ours : ℕ) → unformed (length hostArea) ours (ops (numbered 20 startOps)) ≡ false
+unfolding names joined hostArea named states startOps numbered unformed some opUnformed carried
+formed ours = refl
+
+sorted : not (meetsSortRule (ops (numbered 20 startOps))) ≡ false
+unfolding names joined named states startOps numbered meetsSortRule judged walk judge rule isStateOp carried mapOp allRight
+sorted = refl
+
+roles : not (rolesFit startWords 39 0 startRoles) ≡ false
+unfolding names joined named states startOps records startWords lineAt opOf carried rolesFit fromOn startRoles
+roles = refl
+
+-- ---- in words of any length that holds them
+
+module _ (words : List ℕ) (h : 390 ≤ length words) where
+  put : startIn words ≡ startWords ++ drop 390 words
+  unfolding startIn
+  put = rw (le-ltb (length words) 390 h)
+
+  put-length : length (startIn words) ≡ length words
+  put-length = rw (put, length-append startWords (drop 390 words), whole, length-drop 390 words) (omega arith)
+
+  lines-put : view (startIn words) 39 ≡ numbered 20 startOps
+  lines-put = rw put (view-front startWords (drop 390 words) 39 (rw whole (lit≤ tt)) ∙ lines)
+
+  roles-put : not (rolesFit (startIn words) 39 0 startRoles) ≡ false
+  roles-put = rw put (ap not (roles-front startWords (drop 390 words) 39 (rw whole (lit≤ tt)) 0 startRoles) ∙ roles)
+
+pub start-lines : StartLines
+start-lines words h = lines-put words h
+
+-- ---- the check
+
+counted : (room : Room) → 39 ≤ room .lines → startCountsOut room (startState .tally) (startState .counts) ≡ false
+unfolding startCountsOut startState
+counted room h =
+    rw (le-ltb (room .lines) 39 h, le-ltb (room .names) 0 (omega arith), le-ltb (room .edges) 0 (omega arith), le-ltb (room .dispatches) 0 (omega arith), le-ltb (room .bads) 0 (omega arith))
+
+-- no test holds
+none : (a b c d e : Bool) → a ≡ false → b ≡ false → c ≡ false → d ≡ false → e ≡ false → first ((a, 9) ∷ (b, 10) ∷ (c, 11) ∷ (d, 12) ∷ (e, 13) ∷ []) ≡ 0
+none a b c d e qa qb qc qd qe = rw (qa, qb, qc, qd, qe)
+
+pub start-accepted : StartAccepted
+unfolding startRefusal startState
+start-accepted words room h g =
+    let v = lines-put words h in
+    none _ _ _ _ _ (counted room g)
+    (ap (λ (x : List Node). nidsOut 59 (taken x)) v ∙ rising-nids)
+    (ap (λ (x : List Node). unformed (length hostArea) (room .names) (ops x)) v ∙ formed (room .names))
+    (ap (λ (x : List Node). not (meetsSortRule (ops x))) v ∙ sorted)
+    (roles-put words h)
+
+-- ---- demand 3
+
+given : length (startState .roles) ≡ 79
+unfolding startState startRoles fromOn
+given = refl
+
+pub start-means : StartMeans
+unfolding roomOf
+start-means words names calls h records none =
+    let start = listingStart words names in
+    demand-3 start calls
+    (record {
+      host = hostArea;
+      edges = [];
+      dispatches = [];
+      bads = [];
+      accepts = start-accepted words (roomOf (length (startIn words)) (length names) 0 0 0) h (rw (put-length words h) (omega arith));
+      given = given;
+    })
+    records none
