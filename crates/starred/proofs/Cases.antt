@@ -1,0 +1,29 @@
+-- The starred bench cases, computed from the definitions that the contracts cite. Assumes nothing.
+use mathlib.Core.Path.{refl}
+use Rattle.bitvec.specs.Smtlib as Smt
+use Rattle.bitvec.specs.Smtlib.{bit, negative, bvnot, bvneg, bvadd, bvsub, bvmul, bvudiv, bvsdiv, bvand, bvshl, bvlshr, bvult, bvcomp, zeroExtend}
+use Rattle.btor2.specs.Op.{mapOp, carried}
+use Rattle.btor2.specs.Walk.{walk}
+use Rattle.btor2.specs.Value.{binary, evalOp, values, value}
+use Rattle.btor2_list.specs.Record.{lineAt}
+use Rattle.btor2_list.specs.Node.{opOf}
+use Rattle.btor2_list.specs.View.{view}
+use Rattle.program.specs.Prog.{_>>=_}
+use Rattle.builder.specs.Append.{appendLine}
+use Rattle.builder_ops.specs.Composed.{newNeq, newUgte, newSra, newShiftRight, checkAdditionOverflow}
+use Rattle.models.specs.Counters.{modelAddress, modelL, load}
+use Rattle.models.specs.Kinds.{constant, link, withConstant, addend, sumWithConstant, modelAddi, shiftedBack, divided, modelBranch}
+use Rattle.models.specs.Model.{upper, constantOf, regFlowIte, unimplemented, translate}
+use Rattle.riscv.specs.Refusal.{refusal}
+use Rattle.roles.specs.Roles.{rolesFit, operandsFor, flowsIn, withFlows}
+use Rattle.text.specs.Numeral.{numeral}
+use Rattle.text.specs.BadName.{badName}
+use Rattle.lowering_refusals.specs.Refusal.{roomOf, countsOut, indirectNeeds, linesAndEdges, roomOut, flagOut, refusalOf}
+use Rattle.lowering.specs.Lowering.{programOf, countsAfter, settled, lowering}
+use Rattle.listing_start.specs.Start.{names, joined, named, states as statesOf, startOps, records, startWords, startIn, fromOn, startRoles, startState}
+use Rattle.starred.specs.Case.{room, answer, states}
+use Rattle.starred.specs.Cases.{cases, Starred}
+
+pub starred : Starred
+unfolding cases room answer states names joined named statesOf startOps records startWords startIn fromOn startRoles startState lowering refusalOf roomOf countsOut rolesFit lineAt opOf carried refusal flagOut roomOut indirectNeeds linesAndEdges settled programOf countsAfter appendLine constantOf upper operandsFor flowsIn withFlows translate regFlowIte unimplemented _>>=_ newNeq newUgte newSra newShiftRight checkAdditionOverflow modelAddress modelL load constant link withConstant addend sumWithConstant modelAddi shiftedBack divided modelBranch numeral badName view walk mapOp evalOp binary values value Smt.ite bit negative bvnot bvneg bvadd bvsub bvmul bvudiv bvsdiv bvand bvshl bvlshr bvult bvcomp zeroExtend
+starred = refl

@@ -1,0 +1,72 @@
+-- A bench case: one call on the listing's start, and what is to come of it, by the definition that the code's `lower` equals.
+use Prim.Native.Nat.{ℕ, _-_, _*_}
+use mathlib.Core.Bool.{cond}
+use mathlib.Core.List.{List, [], _∷_, map}
+use lib.Dec.{eqb}
+use lib.ListN.{getD, take, replicate}
+use Rattle.btor2.specs.Op.{Op, unknown}
+use Rattle.btor2.specs.Value as B
+use Rattle.btor2.specs.Value.{Env}
+use Rattle.btor2_list.specs.View.{view}
+use Rattle.list_check.specs.Lines.{ops}
+use Rattle.riscv.specs.declared.Instruction.{Instruction}
+use Rattle.riscv.specs.Kind as K
+use Rattle.riscv.specs.Kind.{Kind}
+use Rattle.roles.specs.Roles.{ref}
+use Rattle.lowering.specs.Lowering.{Lent, lent, Answer, lowering}
+use Rattle.listing_start.specs.Start.{startIn, startState}
+
+-- ---- what is given: an instruction at an address
+
+pub record Given : Type 0 where
+  pub instruction : Instruction
+  pub address : ℕ
+
+-- kind, rd, rs1, rs2, imm
+abbrev pub at : ℕ → Kind → ℕ → ℕ → ℕ → ℕ → Given
+at address k rd rs1 rs2 imm = record { instruction = record { kind = K.number k; rd = rd; rs1 = rs1; rs2 = rs2; imm = imm }; address = address }
+
+-- what the listing lends: its start in words for 1,024 lines, the bytes of 1,024 names, two edges, a dispatch and 1,024 bads
+unfoldable pub room : Lent
+room = lent (startIn (replicate 10240 0)) (replicate 33792 0) (replicate 8 0) (replicate 2 0) (replicate 1024 0)
+
+-- lowered under the listing's flag, identifier 58 at place 38
+unfoldable pub answer : Given → Answer
+answer g = lowering room startState (g .instruction) (g .address) (ref 38)
+
+-- ---- what is to come of it
+
+-- the states of the start: what x1 to x31 are, and the memory at each address; the flag is true
+unfoldable pub states : (ℕ → ℕ) → (ℕ → ℕ) → Env
+states x memory place = cond (eqb place 38) (B.number 1) (cond (eqb place 35) (B.array memory) (B.number (x (place - 3))))
+
+pub data Finding : Type 0 where
+  -- the refusal; 0 is an accepted call
+  refusal : ℕ → Finding
+  -- how many lines the list has then, and the line at a place
+  lines : ℕ → Finding
+  line : ℕ → Op ℕ → Finding
+  -- the value of the line at a place, for some states
+  value : ℕ → Env → ℕ → Finding
+  -- all in-edges, dispatches and bads, record behind record
+  edges : List ℕ → Finding
+  dispatches : List ℕ → Finding
+  bads : List ℕ → Finding
+
+abbrev pub linesAfter : Answer → List (Op ℕ)
+linesAfter a = ops (view (a .lent .list) (a .lowered .state .tally .lines))
+
+-- what a call gives, where a finding asks
+abbrev pub found : Answer → Finding → Finding
+found a (refusal n) = refusal (a .lowered .refusal)
+found a (lines n) = lines (a .lowered .state .tally .lines)
+found a (line p o) = line p (getD (linesAfter a) p unknown)
+found a (value p env n) = value p env (B.value env (linesAfter a) p .num)
+found a (edges es) = edges (take (a .lowered .state .counts .edges * 4) (a .lent .edges))
+found a (dispatches ds) = dispatches (take (a .lowered .state .counts .dispatches * 2) (a .lent .dispatches))
+found a (bads bs) = bads (take (a .lowered .state .counts .bads) (a .lent .bads))
+
+-- a table of cases, with what the calls give in place of what is to come of them
+abbrev pub answered : List (Given × List Finding) → List (Given × List Finding)
+answered [] = []
+answered (c ∷ cs) = (c .0, map (found (answer (c .0))) (c .1)) ∷ answered cs
