@@ -1,0 +1,192 @@
+-- The core over words of its own answers as over the records' words. Assumes nothing.
+use Prim.Native.Nat.{ℕ, zero, suc, _+_, _-_, _*_, _/_, _≤_, _<_, _^_}
+use mathlib.Core.Path.{_≡_, refl, sym, ap, subst, _∙_}
+use mathlib.Core.Bool.{Bool, true, false, cond, not, _||_}
+use mathlib.Core.List.{List, [], _∷_}
+use native.Mathlib.Omega.{arith}
+use native.Mathlib.Nat.{add-zero}
+use borrow.Author.Tests.{lt-ltb, le-ltb, ltb-true, ltb-false, eqb-true}
+use lib.Dec.{eqb, ltb}
+use lib.ListN.{length, replicate, set, length-set, length-replicate}
+use Rattle.btor2.specs.declared.NodeRef.{NodeRef}
+use Rattle.builder.specs.Append.{Store, at, append}
+use Rattle.program.specs.Prog.{Run, exec}
+use Rattle.edges.specs.Edges.{edge, edgeCount, edgesAfter}
+use Rattle.edges.specs.Records.{putRecord}
+use Rattle.instruction_class.specs.declared.Class.{Class}
+use Rattle.instruction_class.specs.declared.Class.the-variants.{Plain, Access, Addition, Branch, Jump, Indirect, Call}
+use Rattle.instruction_class.specs.Class.{class}
+use Rattle.models.specs.Places as P
+use Rattle.models.specs.Places.{Outcome}
+use Rattle.riscv.specs.declared.Instruction.{Instruction}
+use Rattle.riscv.specs.Kind.{kindAt}
+use Rattle.lowering_refusals.specs.declared.Room.{Room}
+use Rattle.lowering_refusals.specs.declared.State.{State}
+use Rattle.lowering_refusals.specs.Refusal.{roomOf, countsOut, needsOf, roomOut, refusalOf}
+use Rattle.lowering.specs.Lowering as L
+use Rattle.lowering.specs.Lowering.{Lent, lent, Answer, answer, programOf, settled, countsAfter, roomIn, refused, lowering}
+use Rattle.lowering.proofs.Accepted as A
+use Rattle.lowering_laws.proofs.Elsewhere.{needs-edges}
+use Rattle.lowering_entry.specs.declared.InEdge.{InEdge}
+use Rattle.lowering_entry.specs.InEdges.{edgeWords, edgeAt, appended, usedOf, withEdges, takenApart, Counted, Aside}
+use Rattle.lowering_entry.proofs.Words.{records, put-words}
+
+-- the core's own words: two records
+abbrev pub zeros : List ℕ
+zeros = replicate 8 0
+
+-- ---- the same tests
+
+-- as many records are left
+pub same-test : (count room n : ℕ) → n ≤ 2 → ltb 2 (usedOf count room + n) ≡ ltb room (count + n)
+same-test count room n small = go (ltb room count) refl
+  where
+    go : (b : Bool) → ltb room count ≡ b → ltb 2 (cond b 3 ((count + 2) - room) + n) ≡ ltb room (count + n)
+    go true e = let h : room < count = ltb-true _ _ e in rw (lt-ltb 2 (3 + n) (omega arith), lt-ltb room (count + n) (omega arith))
+    go false e = let h : count ≤ room = ltb-false _ _ e in by-room (ltb room (count + n)) refl
+      where
+        by-room : (b : Bool) → ltb room (count + n) ≡ b → ltb 2 (((count + 2) - room) + n) ≡ b
+        by-room true f = let g : room < count + n = ltb-true _ _ f in lt-ltb 2 (((count + 2) - room) + n) (omega arith)
+        by-room false f = let g : count + n ≤ room = ltb-false _ _ f in le-ltb 2 (((count + 2) - room) + n) (omega arith)
+
+pub few : (count room : ℕ) → usedOf count room ≤ 3
+few count room = go (ltb room count) refl
+  where
+    go : (b : Bool) → ltb room count ≡ b → cond b 3 ((count + 2) - room) ≤ 3
+    go true e = omega arith
+    go false e = let h : count ≤ room = ltb-false _ _ e in omega arith
+
+-- ---- the same edges
+
+abbrev edgeOf : ℕ → ℕ → ℕ → ℕ → InEdge
+edgeOf to from origin condition = record { to = to; from = from; origin = origin; condition = record { 0 = condition } }
+
+module _ (es : List InEdge) (count u : ℕ) where
+  -- one edge
+  one : (to from origin condition : ℕ) → u + 1 ≤ 2 → count + 1 ≤ length es → let ws = putRecord 4 zeros u (edge to from origin condition) in
+      edgeWords (appended es count 1 (edgeAt ws u) (edgeAt ws (u + 1))) ≡ putRecord 4 (edgeWords es) count (edge to from origin condition)
+  one to from origin condition small fits = rw (back u small) (put-words es count (edgeOf to from origin condition) (omega arith))
+    where
+      back : (u : ℕ) → u + 1 ≤ 2 → edgeAt (putRecord 4 zeros u (edge to from origin condition)) u ≡ edgeOf to from origin condition
+      back zero h = refl
+      back (suc zero) h = refl
+      back (suc (suc u)) h = absurd (omega arith)
+
+  -- two edges, for which all of the words must be free
+  two : (to to′ from origin condition condition′ : ℕ) → u + 2 ≤ 2 → count + 2 ≤ length es
+      → let ws = putRecord 4 (putRecord 4 zeros u (edge to from origin condition)) (u + 1) (edge to′ from origin condition′) in
+      edgeWords (appended es count 2 (edgeAt ws u) (edgeAt ws (u + 1))) ≡ putRecord 4 (putRecord 4 (edgeWords es) count (edge to from origin condition)) (count + 1) (edge to′ from origin condition′)
+  two to to′ from origin condition condition′ small fits =
+      let none : u ≡ 0 = omega arith in
+      let first : InEdge = edgeOf to from origin condition in
+      let more : count + 1 < length (set es count first) = rw (length-set es count first) (omega arith) in
+      rw (none, ← put-words es count first (omega arith)) (put-words (set es count first) (count + 1) (edgeOf to′ from origin condition′) more)
+
+  pub same-edges : (c : Class) (pc imm : ℕ) (o : Outcome ℕ) → u + edgeCount c ≤ 2 → count + edgeCount c ≤ length es → let ws = edgesAfter zeros u c pc imm o in
+      edgeWords (appended es count (edgeCount c) (edgeAt ws u) (edgeAt ws (u + 1))) ≡ edgesAfter (edgeWords es) count c pc imm o
+  same-edges Plain pc imm o small fits = one _ _ _ _ small fits
+  same-edges Access pc imm o small fits = one _ _ _ _ small fits
+  same-edges Addition pc imm o small fits = one _ _ _ _ small fits
+  same-edges Branch pc imm o small fits = two _ _ _ _ _ _ small fits
+  same-edges Jump pc imm o small fits = one _ _ _ _ small fits
+  same-edges Indirect pc imm o small fits = refl
+  same-edges Call pc imm o small fits = one _ _ _ _ small fits
+
+at-most : (c : Class) → edgeCount c ≤ 2
+at-most Plain = omega arith
+at-most Access = omega arith
+at-most Addition = omega arith
+at-most Branch = omega arith
+at-most Jump = omega arith
+at-most Indirect = omega arith
+at-most Call = omega arith
+
+-- what Jalr adds besides lines does not look at the count of edges
+same-aside : (c : Class) (s : Bool) (a : L.Aside) (st : State) (u : ℕ) (d : Bool) (lines rs1 pc : ℕ) → L.asideAfter c a (withEdges st u .counts) s d lines rs1 pc ≡ L.asideAfter c a (st .counts) s d lines rs1 pc
+same-aside Plain s a st u d lines rs1 pc = refl
+same-aside Access s a st u d lines rs1 pc = refl
+same-aside Addition s a st u d lines rs1 pc = refl
+same-aside Branch s a st u d lines rs1 pc = refl
+same-aside Jump s a st u d lines rs1 pc = refl
+same-aside Indirect true a st u d lines rs1 pc = refl
+same-aside Indirect false a st u d lines rs1 pc = refl
+same-aside Call s a st u d lines rs1 pc = refl
+
+-- ---- the same answer
+
+module _ (l n d b : List ℕ) (es : List InEdge) (st : State) (i : Instruction) (pc : ℕ) (flag : NodeRef) (u : ℕ) (test : (m : ℕ) → m ≤ 2 → ltb 2 (u + m) ≡ ltb (length es) (st .counts .edges + m)) where
+  abbrev own : Lent
+  own = lent l n zeros d b
+
+  abbrev theirs : Lent
+  theirs = lent l n (edgeWords es) d b
+
+  abbrev c : Class
+  c = class (kindAt (i .kind))
+
+  abbrev needs : Room
+  needs = needsOf (kindAt (i .kind)) c (eqb (i .imm) 0) (eqb (i .rd) 0) (eqb (i .rs1) 0) pc
+
+  edges-are : needs .edges ≡ edgeCount c
+  edges-are = needs-edges (kindAt (i .kind)) (eqb (i .imm) 0) (eqb (i .rd) 0) pc c (eqb (i .rs1) 0)
+
+  number : ℕ
+  number = refusalOf l (roomIn own) (withEdges st u) i pc (flag .0)
+
+  same-refusal : refusalOf l (roomIn theirs) st i pc (flag .0) ≡ number
+  unfolding number refusalOf countsOut roomOut roomOf
+  same-refusal =
+      let nine : ltb 2 u ≡ ltb (length es) (st .counts .edges) = rw (add-zero u, add-zero (st .counts .edges)) at (test 0 (omega arith)) in
+      let eight : ltb 2 (u + needs .edges) ≡ ltb (length es) (st .counts .edges + needs .edges) = test (needs .edges) (rw edges-are (at-most c)) in
+      rw (records es, ← nine, ← eight)
+
+  -- what the core gave as a counts no edge away, and taken apart it is the answer whole
+  abbrev Whole : Answer → Answer → Type 0
+  Whole a whole =
+      let r = takenApart (a .lowered) (st .counts .edges) u (a .lent .edges) in
+      (u ≤ a .lowered .state .counts .edges) × Aside es (st .counts .edges) r (λ after. answer (r .lowered) (lent (a .lent .list) (a .lent .names) (edgeWords after) (a .lent .dispatches) (a .lent .bads)) ≡ whole)
+
+  module _ (run : Run Store (P.Modeled ℕ)) where
+    refused-whole : (m : ℕ) → Whole (refused m own (withEdges st u)) (refused m theirs st)
+    refused-whole m =
+        let none : u - u ≡ 0 = omega arith in
+        (omega arith, record { fits = λ some. absurd (omega (arith, none)); right = rw (none, add-zero (st .counts .edges)) })
+
+    settled-whole : number ≡ 0 → Whole (settled own (withEdges st u) i pc run) (settled theirs st i pc run)
+    unfolding settled countsAfter number roomOf
+    settled-whole accepted =
+        let small : u + needs .edges ≤ 2 = A.roomy l (roomIn own) (withEdges st u) i pc (flag .0) accepted .edges in
+        let small′ : u + edgeCount c ≤ 2 = rw edges-are at small in
+        let fits : st .counts .edges + edgeCount c ≤ length es = ltb-false _ _ (sym (test (edgeCount c) (at-most c)) ∙ le-ltb 2 (u + edgeCount c) small′) in
+        let added : (u + needs .edges) - u ≡ edgeCount c = omega (arith, edges-are) in (
+          omega arith,
+          record {
+            fits = λ some. rw added fits;
+            right = rw (added, edges-are, same-aside c (eqb (i .rs1) 0) (L.aside n d b) st u (eqb (i .rd) 0) (st .tally .lines) (i .rs1) pc, same-edges es (st .counts .edges) u c pc (i .imm) (run .value .outcome) small′ fits);
+          },
+        )
+
+    either : (t : Bool) → eqb number 0 ≡ t
+        → Whole (cond t (settled own (withEdges st u) i pc run) (refused number own (withEdges st u))) (cond t (settled theirs st i pc run) (refused number theirs st))
+    either true e = settled-whole (eqb-true number 0 e)
+    either false e = refused-whole number
+
+  whole : Whole (lowering own (withEdges st u) i pc flag) (lowering theirs st i pc flag)
+  unfolding lowering programOf number
+  whole = rw same-refusal (either (exec append (at l (st .tally)) (programOf st i pc flag)) (eqb number 0) refl)
+
+  pub same-answer : (a : Answer) → a ≡ lowering own (withEdges st u) i pc flag → Whole a (lowering theirs st i pc flag)
+  same-answer a e = subst (λ (x : Answer). Whole x (lowering theirs st i pc flag)) (sym e) whole
+
+-- the sums fit: for this a list of any records of the same length will do
+pub counted : (l n d b : List ℕ) (st : State) (i : Instruction) (pc : ℕ) (flag : NodeRef) (u room : ℕ) → u ≡ usedOf (st .counts .edges) room → st .counts .edges < 2 ^ 64 → room < 2 ^ 64
+    → (a : Answer) → a ≡ lowering (lent l n zeros d b) (withEdges st u) i pc flag → Counted (a .lowered) (st .counts .edges) u
+counted l n d b st i pc flag u room is count-fits room-fits a e =
+    let es : List InEdge = replicate room (edgeOf 0 0 0 0) in
+    let long : length es ≡ room = length-replicate room (edgeOf 0 0 0 0) in
+    let w = same-answer l n d b es st i pc flag u (λ m h. rw (is, long) (same-test (st .counts .edges) room m h)) a e in
+    record { few = rw is (few (st .counts .edges) room); more = w .0; fits = sums (a .lowered .state .counts .edges - u) (λ some. omega (arith, w .1 .fits some, long)) }
+  where
+    sums : (m : ℕ) → (0 < m → st .counts .edges + m ≤ room) → st .counts .edges + m < 2 ^ 64
+    sums zero h = omega arith
+    sums (suc m) h = omega (arith, h (omega arith))
