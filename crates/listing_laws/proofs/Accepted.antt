@@ -1,4 +1,4 @@
--- The listing's own start: its lines, that the start's check accepts it, and demand 3 from it. Assumes nothing.
+-- The listing's own start: its lines, that the start's check accepts it, x0's node, and demand 3 from it. Assumes nothing.
 use Prim.Native.Nat.{ℕ, _≤_}
 use mathlib.Core.Path.{_≡_, refl, _∙_, ap}
 use mathlib.Core.Bool.{Bool, false, not}
@@ -10,6 +10,7 @@ use lib.ListN.{length, length-append, drop, length-drop}
 use Rattle.btor2.specs.Op.{mapOp, carried}
 use Rattle.btor2.specs.Walk.{walk}
 use Rattle.btor2.specs.SortRule.{rule, isStateOp, judge, judged, allRight, meetsSortRule}
+use Rattle.btor2.specs.Value.{Env, evalOp, values, value}
 use Rattle.btor2_list.specs.Record.{lineAt}
 use Rattle.btor2_list.specs.Node.{Node, opOf}
 use Rattle.btor2_list.specs.View.{view}
@@ -23,8 +24,10 @@ use Rattle.lowering_refusals.specs.Refusal.{roomOf}
 use Rattle.lowering_laws.specs.Lines.{numbered}
 use Rattle.start.specs.Start.{startCountsOut, startRefusal}
 use Rattle.listing_start.specs.Start.{names, joined, hostArea, named, states, startOps, records, startWords, startIn, fromOn, startRoles, startState}
+use Rattle.demand.specs.Calls.{operators}
+use Rattle.demand.specs.Demand3.{registerNodeValue}
 use Rattle.demand.proofs.Demand3.{demand-3}
-use Rattle.listing_laws.specs.Accepted.{StartLines, StartAccepted, listingStart, StartMeans}
+use Rattle.listing_laws.specs.Accepted.{StartLines, StartAccepted, listingStart, StartZero, StartMeans}
 use Rattle.listing_laws.proofs.Words.{view-front, roles-front}
 
 -- ---- computed over the start's words alone
@@ -94,6 +97,14 @@ start-accepted words room h g =
     (roles-put words h)
 
 -- ---- demand 3
+
+zero-line : (env : Env) → value env (ops (numbered 20 startOps)) 2 .num ≡ 0
+unfolding names joined named states startOps numbered walk mapOp evalOp values value
+zero-line env = refl
+
+pub start-zero : StartZero
+unfolding registerNodeValue operators startState startRoles fromOn
+start-zero words names env h = ap (λ (x : List Node). value env (ops x) 2 .num) (lines-put words h) ∙ zero-line env
 
 given : length (startState .roles) ≡ 79
 unfolding startState startRoles fromOn

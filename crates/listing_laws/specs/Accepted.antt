@@ -4,13 +4,14 @@ use Prim.Native.Nat.{ℕ, _≤_}
 use mathlib.Core.Path.{_≡_}
 use mathlib.Core.List.{List}
 use lib.ListN.{length}
+use Rattle.btor2.specs.Value.{Env}
 use Rattle.btor2_list.specs.View.{view}
 use Rattle.lowering_refusals.specs.declared.Room.{Room}
 use Rattle.lowering_laws.specs.Lines.{numbered}
 use Rattle.start.specs.Start.{startRefusal}
 use Rattle.listing_start.specs.Start.{hostArea, startOps, startIn, startState}
 use Rattle.demand.specs.Calls.{Held, Call}
-use Rattle.demand.specs.Demand3.{Records, NoneExcluded, Means}
+use Rattle.demand.specs.Demand3.{Records, NoneExcluded, ZeroRegister, Means}
 
 -- its lines are the definition's, under the identifiers 20 to 58
 abbrev pub StartLines : Type 0
@@ -22,6 +23,10 @@ StartAccepted = (words : List ℕ) (room : Room) → 390 ≤ length words → 39
 
 abbrev pub listingStart : List ℕ → List ℕ → Held
 listingStart words names = record { list = startIn words; names = names; state = startState }
+
+-- x0's node is 0, which demand 3 asks of the states
+abbrev pub StartZero : Type 0
+StartZero = (words names : List ℕ) (env : Env) → 390 ≤ length words → ZeroRegister env (listingStart words names)
 
 abbrev pub StartMeans : Type 0
 StartMeans = (words names : List ℕ) (calls : List Call) → 390 ≤ length words → Records calls → NoneExcluded (listingStart words names) calls
