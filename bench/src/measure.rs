@@ -90,7 +90,19 @@ pub fn measure(halves: &mut [&mut dyn Half], repetitions: usize) -> Vec<Vec<Stri
         figure("printing", "bytes", f.text.len(), &mut f.printing);
         println!("  memory    {:.1} bytes a line", f.grown as f64 / f.lines as f64);
     }
+    if let ([a, b], [f, g]) = (&*halves, &all[..]) {
+        println!("{} to {}:", b.name(), a.name());
+        ratio("lowering", &f.lowering, &g.lowering);
+        ratio("printing", &f.printing, &g.printing);
+        println!("  memory    {:.2} of the bytes a line", g.grown as f64 / f.grown as f64);
+    }
     all.iter().map(|figures| node_lines(&figures.text)).collect()
+}
+
+// How many times as fast as the first the second is; both did the same, and their times are sorted.
+fn ratio(what: &str, first: &[f64], second: &[f64]) {
+    let median = first.len() / 2;
+    println!("  {}  best {:.2}, median {:.2} times as fast", what, first[0] / second[0], first[median] / second[median]);
 }
 
 fn figure(what: &str, unit: &str, amount: usize, seconds: &mut [f64]) {

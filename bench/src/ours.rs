@@ -1,18 +1,18 @@
-// Our library, linked from libhost.a and called by the functions of bench/host.h. The host lends all storage; it is taken untouched, so
+// Our library, linked from libhost.a and called by the functions of host/lanthanumbat.h. The host lends all storage; it is taken untouched, so
 // that what a lowering writes is what it is seen to need.
 use crate::measure::{fail, Half, Record};
 
 extern "C" {
     #[rustfmt::skip]
-    fn host_lower(
+    fn lanthanumbat_lower(
         list: *mut u64, list_len: usize, names: *mut u8, names_len: usize, edges: *mut u64, edges_len: usize,
         dispatches: *mut u64, dispatches_len: usize, bads: *mut u64, bads_len: usize, state: *mut u64, state_len: usize,
-        address: u64, kind: u64, rd: u64, rs1: u64, rs2: u64, imm: u64, flag: u64,
+        address: u64, kind: u64, rd: u64, rs1: u64, rs2: u64, imm: u64, flag: usize,
     ) -> u64;
     #[rustfmt::skip]
-    fn host_print(
-        list: *const u64, list_len: usize, host_names: *const u8, host_names_len: usize, names: *const u8, names_len: usize,
-        lines: u64, from: u64, to: u64, out: *mut u8, out_len: usize, written: *mut u64,
+    fn lanthanumbat_print(
+        list: *const u64, list_len: usize, lines: usize, host: *const u8, host_len: usize, ours: *const u8, ours_len: usize,
+        from: usize, count: usize, out: *mut u8, out_len: usize, written: *mut u64,
     ) -> u64;
 }
 
@@ -22,7 +22,7 @@ const MOST_TEXT: usize = 60; // bytes of a line
 const MOST_NAME: usize = 33; // bytes of a bad line's name
 const FIRST: u64 = 20; // the identifier at place 0
 const START: usize = 39; // lines
-const FLAG: u64 = 38;
+const FLAG: usize = 38;
 const CONST: u64 = 1;
 const STATE: u64 = 19;
 
@@ -93,7 +93,7 @@ impl Half for Ours<'_> {
         for r in self.records {
             #[rustfmt::skip]
             let refusal = unsafe {
-                host_lower(
+                lanthanumbat_lower(
                     list.as_mut_ptr(), list.len(), names.as_mut_ptr(), names.len(), edges.as_mut_ptr(), edges.len(),
                     dispatches.as_mut_ptr(), dispatches.len(), bads.as_mut_ptr(), bads.len(), state.as_mut_ptr(), state.len(),
                     r.address, r.kind, r.rd, r.rs1, r.rs2, r.imm, FLAG,
@@ -108,12 +108,12 @@ impl Half for Ours<'_> {
 
     fn print(&mut self) {
         let Lent { list, names, state, text, .. } = &mut self.lent;
-        let mut written = 0;
+        let (lines, mut written) = (state[0] as usize, 0);
         #[rustfmt::skip]
         let refusal = unsafe {
-            host_print(
-                list.as_ptr(), list.len(), names.as_ptr(), 0, names.as_ptr(), names.len(),
-                state[0], START as u64, state[0], text.as_mut_ptr(), text.len(), &mut written,
+            lanthanumbat_print(
+                list.as_ptr(), list.len(), lines, names.as_ptr(), 0, names.as_ptr(), names.len(),
+                START, lines - START, text.as_mut_ptr(), text.len(), &mut written,
             )
         };
         if refusal != 0 || written as usize > text.len() {

@@ -1,0 +1,77 @@
+// Lowering RV64 instructions to BTOR2 lines, for a host in C. `rt staticlib host` writes target/staticlib/libhost.a, which defines these
+// functions; it calls memcpy and nothing else. What each gives is proved equal to a definition of crates/host/specs/Host.antt.
+//
+// All storage is the host's: a function takes a pointer and a length in elements, keeps neither, and allocates nothing. No two areas of one
+// call may overlap. A pointer whose length is 0 is not read, but must not be NULL. Words behind those in use are spare room; an accepted call writes there only.
+//
+// LIST: a line is 10 words, and its place is its index. Word by word:
+//   0 identifier
+//   1 kind: 1 const, 2 read, 3 write, 4 add, 5 sub, 6 mul, 7 udiv, 8 sdiv, 9 urem, 10 sll, 11 srl, 12 ult, 13 uext, 14 ite, 15 eq, 16 and,
+//     17 or, 18 not, 19 state, 20 next, 21 input, 22 bad
+//   2 sort: 1 bit, 2 word of 64 bits, 3 memory, 11 to 17 an input of 1 to 7 bytes; the sort that uext extends from
+//   3 4 5 operands, as places; the init of a state is word 3
+//   6 value of a const; of a state not 0 where it has an init
+//   7 8 9 name: area (1 the host's, 2 ours, else none), first byte in the area, length
+// NAMES: bytes of our area: the names of the bad lines that a lowering appends, at most 33 bytes each.
+// EDGES: an edge is 4 words: address to, address from, origin (0 regular, 1 branch, 2 syscall), place of the condition or UINT64_MAX.
+// DISPATCHES: a dispatch is 2 words: register, address from.
+// BADS: a bad is 1 word: the place of a bad line.
+//
+// STATE: 85 words, which the host makes once for its start and hands from call to call:
+//   0 lines in use   1 next identifier   2 bytes of NAMES in use   3 edges   4 dispatches   5 bads in use
+//   from 6 on the places that stand for the 79 roles (crates/roles):
+//   6 7 the bits 0 and 1   8 9 the words 0 and 1   10 memory   11 counter   12 counter maximum   13 to 44 registers x0 to x31
+//   45 to 75 flows of x1 to x31   76 flow of memory   77 of counter   78 of counter maximum   79 of division   80 of remainder
+//   81 of access   82 of addition overflow   83 of multiplication overflow   84 of ecall
+// The host may empty edges, dispatches and bads between calls by setting their counts to 0.
+//
+// REFUSALS: a function gives 0, or the number of the first refusal that applies, and then changes nothing:
+//   1 kind not among the 50   2 a register field that the kind uses is above 31, or imm is outside its format   3 shift amount
+//   4 Srliw by 0   5 rd is x0   6 Jalr with an offset under a register   7 no flag of sort bit where one is needed
+//   8 no room for what the instruction appends   9 a count or an identifier too large, a run outside the list, fewer than 85 words of state
+//   10 identifiers at the start   11 a line that is not well formed   12 the sort rule   13 a role   14 the output is too short
+#ifndef LANTHANUMBAT_H
+#define LANTHANUMBAT_H
+
+#include <stddef.h>
+#include <stdint.h>
+
+#ifdef __cplusplus
+extern "C" {
+#endif
+
+enum { LANTHANUMBAT_LINE = 10, LANTHANUMBAT_EDGE = 4, LANTHANUMBAT_DISPATCH = 2, LANTHANUMBAT_STATE = 85, LANTHANUMBAT_MOST_LINES = 1048576 };
+
+// Lowers one instruction. Refusals 9, 13, 1 to 8. An instruction appends at most 37 lines, 2 edges, a dispatch, or a bad and its name.
+//   address         of the instruction
+//   kind            0 to 49: Lui Auipc Lb Lh Lw Ld Lbu Lhu Sb Sh Sw Sd Addi Sltiu Xori Ori Andi Slli Srli Srai Addiw Slliw Srliw Sraiw
+//                   Add Sub Sll Sltu Srl Sra Or And Mul Div Divu Remu Addw Divw Subw Sllw Mulw Beq Bne Blt Bge Bltu Bgeu Jal Jalr Ecall
+//   rd, rs1, rs2    registers; a field that the kind does not use is not looked at
+//   imm             the immediate as a word of 64 bits, negative ones as two's complement
+//   flag            the place of the line under which the instruction is done; any place outside the list where there is none
+uint64_t lanthanumbat_lower(uint64_t *list, size_t list_words, uint8_t *names, size_t names_bytes, uint64_t *edges, size_t edges_words,
+                            uint64_t *dispatches, size_t dispatches_words, uint64_t *bads, size_t bads_words, uint64_t *state,
+                            size_t state_words, uint64_t address, uint64_t kind, uint64_t rd, uint64_t rs1, uint64_t rs2, uint64_t imm,
+                            size_t flag);
+
+// Prints a run of lines as BTOR2 at the output's start. Refusals 9, 11 (both over the whole list), 14.
+//   lines           how many lines the list has
+//   host, ours      the areas of the names, as 1 and 2 in a line's word 7
+//   from, count     the first place of the run, and how many lines it has
+//   written         is set to the bytes of the text, 0 where the call is refused
+uint64_t lanthanumbat_print(const uint64_t *list, size_t list_words, size_t lines, const uint8_t *host, size_t host_bytes,
+                            const uint8_t *ours, size_t ours_bytes, size_t from, size_t count, uint8_t *out, size_t out_bytes,
+                            uint64_t *written);
+
+// Checks a start that the host made. Refusals 9 to 13. Of names, edges, dispatches and bads only the lengths matter.
+//   host            the host's area of names
+uint64_t lanthanumbat_check_start(const uint64_t *list, size_t list_words, const uint8_t *host, size_t host_bytes, const uint8_t *names,
+                                  size_t names_bytes, const uint64_t *edges, size_t edges_words, const uint64_t *dispatches,
+                                  size_t dispatches_words, const uint64_t *bads, size_t bads_words, const uint64_t *state,
+                                  size_t state_words);
+
+#ifdef __cplusplus
+}
+#endif
+
+#endif

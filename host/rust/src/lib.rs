@@ -1,0 +1,110 @@
+//! Lowering RV64 instructions to BTOR2 lines: safe calls of libhost.a. The layout of lines, edges, dispatches, bads and the state's words
+//! stands in host/lanthanumbat.h.
+
+mod ffi {
+    extern "C" {
+        #[rustfmt::skip]
+        pub fn lanthanumbat_lower(
+            list: *mut u64, list_words: usize, names: *mut u8, names_bytes: usize, edges: *mut u64, edges_words: usize,
+            dispatches: *mut u64, dispatches_words: usize, bads: *mut u64, bads_words: usize, state: *mut u64, state_words: usize,
+            address: u64, kind: u64, rd: u64, rs1: u64, rs2: u64, imm: u64, flag: usize,
+        ) -> u64;
+        #[rustfmt::skip]
+        pub fn lanthanumbat_print(
+            list: *const u64, list_words: usize, lines: usize, host: *const u8, host_bytes: usize, ours: *const u8, ours_bytes: usize,
+            from: usize, count: usize, out: *mut u8, out_bytes: usize, written: *mut u64,
+        ) -> u64;
+        #[rustfmt::skip]
+        pub fn lanthanumbat_check_start(
+            list: *const u64, list_words: usize, host: *const u8, host_bytes: usize, names: *const u8, names_bytes: usize,
+            edges: *const u64, edges_words: usize, dispatches: *const u64, dispatches_words: usize, bads: *const u64, bads_words: usize,
+            state: *const u64, state_words: usize,
+        ) -> u64;
+    }
+}
+
+/// The words of a line, an edge, a dispatch and the state.
+pub const LINE: usize = 10;
+pub const EDGE: usize = 4;
+pub const DISPATCH: usize = 2;
+pub const STATE: usize = 85;
+
+/// The number of a refusal, 1 to 14.
+#[derive(Clone, Copy, Debug, PartialEq, Eq)]
+pub struct Refusal(pub u64);
+
+fn refused(number: u64) -> Result<(), Refusal> {
+    match number {
+        0 => Ok(()),
+        _ => Err(Refusal(number)),
+    }
+}
+
+/// An instruction: its kind, 0 to 49, its registers, and its immediate.
+#[derive(Clone, Copy, Debug)]
+pub struct Instruction {
+    pub kind: u64,
+    pub rd: u64,
+    pub rs1: u64,
+    pub rs2: u64,
+    pub imm: i64,
+}
+
+/// The storage that the host lends, and the state.
+pub struct Lent<'a> {
+    pub list: &'a mut [u64],
+    pub names: &'a mut [u8],
+    pub edges: &'a mut [u64],
+    pub dispatches: &'a mut [u64],
+    pub bads: &'a mut [u64],
+    pub state: &'a mut [u64; STATE],
+}
+
+impl Lent<'_> {
+    /// How many lines are in use.
+    pub fn lines(&self) -> usize {
+        self.state[0] as usize
+    }
+
+    /// Lowers an instruction at an address under the flag at a place.
+    pub fn lower(&mut self, i: Instruction, address: u64, flag: usize) -> Result<(), Refusal> {
+        // The slices are borrowed apart from each other, and the library keeps no pointer.
+        #[rustfmt::skip]
+        let number = unsafe {
+            ffi::lanthanumbat_lower(
+                self.list.as_mut_ptr(), self.list.len(), self.names.as_mut_ptr(), self.names.len(),
+                self.edges.as_mut_ptr(), self.edges.len(), self.dispatches.as_mut_ptr(), self.dispatches.len(),
+                self.bads.as_mut_ptr(), self.bads.len(), self.state.as_mut_ptr(), self.state.len(),
+                address, i.kind, i.rd, i.rs1, i.rs2, i.imm as u64, flag,
+            )
+        };
+        refused(number)
+    }
+
+    /// Checks a start, with the host's area of names.
+    pub fn check_start(&self, host: &[u8]) -> Result<(), Refusal> {
+        #[rustfmt::skip]
+        let number = unsafe {
+            ffi::lanthanumbat_check_start(
+                self.list.as_ptr(), self.list.len(), host.as_ptr(), host.len(), self.names.as_ptr(), self.names.len(),
+                self.edges.as_ptr(), self.edges.len(), self.dispatches.as_ptr(), self.dispatches.len(),
+                self.bads.as_ptr(), self.bads.len(), self.state.as_ptr(), self.state.len(),
+            )
+        };
+        refused(number)
+    }
+
+    /// Prints `count` lines from a place on; gives the text's length in `out`.
+    pub fn print(&self, host: &[u8], from: usize, count: usize, out: &mut [u8]) -> Result<usize, Refusal> {
+        let mut written = 0;
+        #[rustfmt::skip]
+        let number = unsafe {
+            ffi::lanthanumbat_print(
+                self.list.as_ptr(), self.list.len(), self.lines(), host.as_ptr(), host.len(), self.names.as_ptr(), self.names.len(),
+                from, count, out.as_mut_ptr(), out.len(), &mut written,
+            )
+        };
+        refused(number)?;
+        Ok(written as usize)
+    }
+}
