@@ -28,6 +28,7 @@ ghost use mathlib.Core.Path.{_≡_};
 ghost use Rattle.btor2.specs.Sort.{sortNumber};
 ghost use Rattle.btor2.specs.Op.{binSort};
 ghost use Rattle.btor2_list.specs.Node.{row, noName, binKind};
+ghost use Rattle.program.specs.Prog.{ran};
 ghost use Rattle.program.specs.OneLine.{newConst, newRead, newWrite, newBin, newExt, newIte, newEq, newAndBit, newAndWord, newNotBit, newNotWord, newBad};
 ghost use Rattle.builder.specs.Append.{appendLine, at, made};
 ghost use Rattle.builder.specs.Gives.{Gives};
@@ -65,8 +66,8 @@ const WORD: u64 = 2;
 
 const MEMORY: u64 = 3;
 
-// Appends a line of these fields under the next identifier.
-fn append(
+// The work of the append, with the tally by value: a line of these fields under the next identifier.
+fn append_line(
     list: &mut [u64],
     t: Tally,
     kind: u64,
@@ -106,6 +107,45 @@ fn append(
     }
 }
 
+// Appends a line of these fields under the next identifier, and gives its place. The tally is lent, and changed here.
+pub fn append(
+    list: &mut [u64],
+    tally: &mut Tally,
+    kind: u64,
+    sort: u64,
+    op1: NodeRef,
+    op2: NodeRef,
+    op3: NodeRef,
+    imm: u64,
+    name: Name,
+) -> NodeRef
+    ensures { λ r. ⌜ ran (at (now (list .exit)) (now (tally .exit))) (r .0) ≡ appendLine (at (now (list .entry)) (now (tally .entry))) (row (now (tally .entry) .nid) kind sort (op1 .0) (op2 .0) (op3 .0) imm name) ⌝ }
+{
+    let t = *tally;
+    let made = append_line(list, t, kind, sort, op1, op2, op3, imm, name);
+    *tally = made.tally;
+    made.node
+}
+
+// Every line of the builder comes here: the tally that came by value lies in a local, which is lent to the append.
+fn add_node(
+    list: &mut [u64],
+    t: Tally,
+    kind: u64,
+    sort: u64,
+    op1: NodeRef,
+    op2: NodeRef,
+    op3: NodeRef,
+    imm: u64,
+    name: Name,
+) -> Made
+    ensures { λ r. ⌜ made (now (list .exit)) r ≡ appendLine (at (now (list .entry)) t) (row (t .nid) kind sort (op1 .0) (op2 .0) (op3 .0) imm name) ⌝ }
+{
+    let mut tally = t;
+    let node = append(list, &mut tally, kind, sort, op1, op2, op3, imm, name);
+    Made { tally, node }
+}
+
 // A line with neither constant nor name.
 fn plain(
     list: &mut [u64],
@@ -118,7 +158,7 @@ fn plain(
 ) -> Made
     ensures { λ r. ⌜ made (now (list .exit)) r ≡ appendLine (at (now (list .entry)) t) (row (t .nid) kind sort (op1 .0) (op2 .0) (op3 .0) 0 noName) ⌝ }
 {
-    append(
+    add_node(
         list,
         t,
         kind,
@@ -138,7 +178,7 @@ fn plain(
 pub fn new_const(list: &mut [u64], t: Tally, imm: u64) -> Made
     ensures { λ r. ⌜ Gives (now (list .entry)) t (newConst imm) (now (list .exit)) (r .tally) (r .node .0) ⌝ }
 {
-    append(
+    add_node(
         list,
         t,
         CONST,
@@ -266,5 +306,5 @@ pub fn new_not_word(list: &mut [u64], t: Tally, value: NodeRef) -> Made
 pub fn new_bad(list: &mut [u64], t: Tally, cond: NodeRef, name: Name) -> Made
     ensures { λ r. ⌜ Gives (now (list .entry)) t (newBad (cond .0) name) (now (list .exit)) (r .tally) (r .node .0) ⌝ }
 {
-    append(list, t, BAD, 0, cond, NodeRef(0), NodeRef(0), 0, name)
+    add_node(list, t, BAD, 0, cond, NodeRef(0), NodeRef(0), 0, name)
 }
