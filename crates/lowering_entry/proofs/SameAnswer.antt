@@ -1,8 +1,8 @@
 -- The core over words of its own answers as over the records' words. Assumes nothing.
-use Prim.Native.Nat.{ℕ, zero, suc, _+_, _-_, _*_, _/_, _≤_, _<_, _^_}
-use mathlib.Core.Path.{_≡_, refl, sym, ap, subst, _∙_}
-use mathlib.Core.Bool.{Bool, true, false, cond, not, _||_}
-use mathlib.Core.List.{List, [], _∷_}
+use Prim.Native.Nat.{ℕ, zero, suc, _+_, _-_, _≤_, _<_, _^_}
+use mathlib.Core.Path.{_≡_, refl, sym, subst, _∙_}
+use mathlib.Core.Bool.{Bool, true, false, cond}
+use mathlib.Core.List.{List}
 use native.Mathlib.Omega.{arith}
 use native.Mathlib.Nat.{add-zero}
 use borrow.Author.Tests.{lt-ltb, le-ltb, ltb-true, ltb-false, eqb-true}
@@ -28,7 +28,8 @@ use Rattle.lowering.specs.Lowering.{Lent, lent, Answer, answer, programOf, sett
 use Rattle.lowering.proofs.Accepted as A
 use Rattle.lowering_laws.proofs.Elsewhere.{needs-edges}
 use Rattle.lowering_entry.specs.declared.InEdge.{InEdge}
-use Rattle.lowering_entry.specs.InEdges.{edgeWords, edgeAt, appended, usedOf, withEdges, takenApart, Counted, Aside}
+use Rattle.lowering_entry.specs.InEdges.{edgeWords}
+use Rattle.lowering_entry.specs.Parts.{edgeAt, appended, usedOf, withEdges, takenApart, Counted, Rejoined}
 use Rattle.lowering_entry.proofs.Words.{records, put-words}
 
 -- the core's own words: two records
@@ -144,7 +145,7 @@ module _ (l n d b : List ℕ) (es : List InEdge) (st : State) (i : Instruction) 
   abbrev Whole : Answer → Answer → Type 0
   Whole a whole =
       let r = takenApart (a .lowered) (st .counts .edges) u (a .lent .edges) in
-      (u ≤ a .lowered .state .counts .edges) × Aside es (st .counts .edges) r (λ after. answer (r .lowered) (lent (a .lent .list) (a .lent .names) (edgeWords after) (a .lent .dispatches) (a .lent .bads)) ≡ whole)
+      (u ≤ a .lowered .state .counts .edges) × Rejoined es (st .counts .edges) r (λ after. answer (r .lowered) (lent (a .lent .list) (a .lent .names) (edgeWords after) (a .lent .dispatches) (a .lent .bads)) ≡ whole)
 
   module _ (run : Run Store (P.Modeled ℕ)) where
     refused-whole : (m : ℕ) → Whole (refused m own (withEdges st u)) (refused m theirs st)

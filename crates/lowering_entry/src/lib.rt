@@ -10,7 +10,8 @@ ghost use Prim.Native.Nat.{_+_, _≤_, _<_};
 ghost use mathlib.Core.List.{List};
 ghost use lib.ListN.{length};
 ghost use Rattle.lowering.specs.Lowering.{lent, answer, lowering};
-ghost use Rattle.lowering_entry.specs.InEdges.{edgeWords, edgeAt, appended, withEdges, usedOf, takenApart, Counted, Aside};
+ghost use Rattle.lowering_entry.specs.InEdges.{edgeWords};
+ghost use Rattle.lowering_entry.specs.Parts.{edgeAt, appended, withEdges, usedOf, takenApart, Counted, Rejoined};
 
 // An in-edge: the address it leads to, the one it comes from, its origin (one of `edges`' REGULAR, BRANCH and SYSCALL) and its condition's
 // place, NO_CONDITION where there is none.
@@ -85,7 +86,7 @@ fn lower_apart(
     address: u64,
     flag: NodeRef,
 ) -> Apart
-    ensures { λ r. ⌜ ((es : List InEdge) → length es ≡ room → Aside es (state .counts .edges) r (λ after. answer (r .lowered) (lent (now (list .exit)) (now (names .exit)) (edgeWords after) (now (dispatches .exit)) (now (bads .exit))) ≡ lowering (lent (now (list .entry)) (now (names .entry)) (edgeWords es) (now (dispatches .entry)) (now (bads .entry))) state i address flag)) ⌝ }
+    ensures { λ r. ⌜ ((es : List InEdge) → length es ≡ room → Rejoined es (state .counts .edges) r (λ after. answer (r .lowered) (lent (now (list .exit)) (now (names .exit)) (edgeWords after) (now (dispatches .exit)) (now (bads .exit))) ≡ lowering (lent (now (list .entry)) (now (names .entry)) (edgeWords es) (now (dispatches .entry)) (now (bads .entry))) state i address flag)) ⌝ }
 {
     let c = state.counts;
     let used = used_of(c.edges, room);

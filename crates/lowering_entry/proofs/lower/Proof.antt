@@ -53,7 +53,8 @@ use Rattle.lowering.specs.declared.Lowered.{Lowered}
 use Rattle.lowering.specs.Lowering.{lent, answer, lowering}
 use Rattle.lowering.proofs.Lowered as Lw
 use Rattle.lowering.proofs.Lowered.Laws as Lw′
-use Rattle.lowering_entry.specs.InEdges.{edgeWords, appended, Aside}
+use Rattle.lowering_entry.specs.InEdges.{edgeWords}
+use Rattle.lowering_entry.specs.Parts.{appended, Rejoined}
 use Rattle.lowering_entry.specs.declared.InEdge.{InEdge}
 use Rattle.lowering_entry.specs.declared.Apart.{Apart}
 use Rattle.lowering_entry.proofs.InEdge as T
@@ -191,7 +192,7 @@ module _ {M : Type 1} (𝓤 : URA M) (H : Heap 𝓤) (A : Atoms 𝓤) (W : Given
   abbrev Told : Apart → List ℕ → List ℕ → List ℕ → List ℕ → Type 0
   Told r vs₀ vs₁ vs₃ vs₄ =
       (fs : List InEdge) → length fs ≡ length es
-      → Aside fs (st .counts .edges) r (λ after. answer (r .lowered) (lent vs₀ vs₁ (edgeWords after) vs₃ vs₄) ≡ lowering (lent ws ns (edgeWords fs) ds bs) st i pc flag)
+      → Rejoined fs (st .counts .edges) r (λ after. answer (r .lowered) (lent vs₀ vs₁ (edgeWords after) vs₃ vs₄) ≡ lowering (lent ws ns (edgeWords fs) ds bs) st i pc flag)
 
   -- the count of edges, and the parts of what the core gave
   count-is : Is usize (st .counts .edges) (vint w64 (st .counts .edges) ∷ [])
