@@ -50,7 +50,7 @@ pub fn put_field(out: &mut [u8], at: usize, on: bool, x: u64) -> usize
 {
     if on {
         let p = text::put_byte(out, at, 32);
-        return text::put_decimal(out, p, x);
+        return digits::put_decimal(out, p, x);
     }
     at
 }
@@ -83,7 +83,7 @@ pub fn put_row(out: &mut [u8], at: usize, row: Row, name: &[u8]) -> usize
 {
     let word = row.word;
     let n = row.n;
-    let p = text::put_decimal(out, at, row.nid);
+    let p = digits::put_decimal(out, at, row.nid);
     let p0 = text::put_byte(out, p, 32);
     let p1 = put_word(out, p0, word);
     let p2 = put_field(out, p1, 0 < n, row.a);
