@@ -1,23 +1,19 @@
-// Kinds with a constant: Lui, Auipc, the link of Jal and Jalr, and the register-immediate kinds.
-use btor2::NodeRef;
+// Kinds with a constant: Lui, Auipc, the link of Jal and Jalr, and the register-immediate kinds but Addi and Addiw.
 use btor2::NodeType;
-use builder::Bin;
-use builder::Made;
 use builder::Tally;
-use builder::new_bin;
-use builder::new_const;
-use builder::new_ext;
+use builder_lines::Bin;
+use builder_lines::new_bin;
+use builder_lines::new_const;
+use builder_lines::new_ext;
 use builder_ops::Operator;
 use builder_ops::apply;
-use builder_ops::check_addition_overflow;
-use builder_ops::new_sext32;
 use builder_ops::new_sra;
 use models::Flows;
 use models::Modeled;
 use models::Operands;
 use models::Outcome;
 ghost use Rattle.builder_ops.specs.Operator.{operatorOf};
-ghost use Rattle.models.specs.Kinds.{constant, link, withConstant, addend, sumWithConstant, modelAddi, modelAddiw, modelSltiu, modelSlliw, shiftedBack};
+ghost use Rattle.models.specs.Kinds.{constant, link, withConstant, modelSltiu, modelSlliw, shiftedBack};
 ghost use Rattle.builder.specs.Gives.{Gives};
 ghost use Rattle.models.specs.Code.{operandsOf, flowsOf, modeledOf};
 
@@ -84,93 +80,6 @@ pub fn shifted_back(
     let thirtytwo = new_const(list, c.tally, 32);
     let x = new_bin(list, thirtytwo.tally, Bin::Sll, e.rs1, thirtytwo.node);
     let y = apply(list, x.tally, operator, x.node, c.node);
-    let tally = y.tally;
-    let node = y.node;
-    Modeled {
-        tally: tally,
-        flows: f,
-        outcome: Outcome::Register(node),
-    }
-}
-
-// What Addi gives: rs1 where imm is 0, a second constant where rs1 is x0, else the sum.
-fn addend(list: &mut [u64], t: Tally, z: bool, s: bool, imm: u64, rs1: NodeRef, c: NodeRef) -> Made
-    ensures { λ r. ⌜ Gives (now (list .entry)) t (addend z s imm (rs1 .0) (c .0)) (now (list .exit)) (r .tally) (r .node .0) ⌝ }
-{
-    if z {
-        return Made {
-            tally: t,
-            node: rs1,
-        };
-    }
-    if s {
-        return new_const(list, t, imm);
-    }
-    new_bin(list, t, Bin::Add, rs1, c)
-}
-
-fn sum_with_constant(
-    list: &mut [u64],
-    t: Tally,
-    e: Operands,
-    f: Flows,
-    imm: u64,
-    z: bool,
-    s: bool,
-) -> Modeled
-    ensures { λ r. ⌜ Gives (now (list .entry)) t (sumWithConstant z s (operandsOf e) (flowsOf f) imm) (now (list .exit)) (r .tally) (modeledOf r) ⌝ }
-{
-    let c = new_const(list, t, imm);
-    let x = addend(list, c.tally, z, s, imm, e.rs1, c.node);
-    let overflow = check_addition_overflow(
-        list,
-        x.tally,
-        e.flag,
-        f.addition,
-        e.rs1,
-        c.node,
-        x.node,
-    );
-    let tally = overflow.tally;
-    let its_addition = overflow.node;
-    let node = x.node;
-    let mut g = f;
-    g.addition = its_addition;
-    Modeled {
-        tally: tally,
-        flows: g,
-        outcome: Outcome::Register(node),
-    }
-}
-
-pub fn model_addi(
-    list: &mut [u64],
-    t: Tally,
-    e: Operands,
-    f: Flows,
-    imm: u64,
-    d: bool,
-    z: bool,
-    s: bool,
-) -> Modeled
-    ensures { λ r. ⌜ Gives (now (list .entry)) t (modelAddi d z s (operandsOf e) (flowsOf f) imm) (now (list .exit)) (r .tally) (modeledOf r) ⌝ }
-{
-    if d {
-        return Modeled {
-            tally: t,
-            flows: f,
-            outcome: Outcome::Nothing,
-        };
-    }
-    sum_with_constant(list, t, e, f, imm, z, s)
-}
-
-pub fn model_addiw(list: &mut [u64], t: Tally, e: Operands, f: Flows, imm: u64) -> Modeled
-    ensures { λ r. ⌜ Gives (now (list .entry)) t (modelAddiw (operandsOf e) (flowsOf f) imm) (now (list .exit)) (r .tally) (modeledOf r) ⌝ }
-{
-    let c = new_const(list, t, imm);
-    let x = new_bin(list, c.tally, Bin::Add, e.rs1, c.node);
-    let y = new_sext32(list, x.tally, x.node);
     let tally = y.tally;
     let node = y.node;
     Modeled {

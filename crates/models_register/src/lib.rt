@@ -1,14 +1,13 @@
-// Kinds on two registers: logic, shifts, compare, division, branches; and Ecall.
-use btor2::NodeRef;
+// Kinds on two registers: logic, shifts, compare, branches; and Ecall.
 use btor2::NodeType;
-use builder::Bin;
 use builder::Tally;
-use builder::new_and_word;
-use builder::new_bin;
-use builder::new_const;
-use builder::new_ext;
-use builder::new_ite;
-use builder::new_not_bit;
+use builder_lines::Bin;
+use builder_lines::new_and_word;
+use builder_lines::new_bin;
+use builder_lines::new_const;
+use builder_lines::new_ext;
+use builder_lines::new_ite;
+use builder_lines::new_not_bit;
 use builder_ops::Operator;
 use builder_ops::apply;
 use models::Flows;
@@ -16,8 +15,7 @@ use models::Modeled;
 use models::Operands;
 use models::Outcome;
 ghost use Rattle.builder_ops.specs.Operator.{operatorOf};
-ghost use Rattle.builder.specs.Operator.{binOf};
-ghost use Rattle.models.specs.Kinds.{withRegister, modelSltu, shifted, divided, modelRemu, modelBranch, modelEcall};
+ghost use Rattle.models.specs.Kinds.{withRegister, modelSltu, shifted, modelBranch, modelEcall};
 ghost use Rattle.builder.specs.Gives.{Gives};
 ghost use Rattle.models.specs.Code.{operandsOf, flowsOf, modeledOf};
 
@@ -57,24 +55,6 @@ pub fn shifted(list: &mut [u64], t: Tally, operator: Operator, e: Operands, f: F
     }
 }
 
-// Div, Divu: the division flow takes the divisor.
-pub fn divided(list: &mut [u64], t: Tally, operator: Bin, e: Operands, f: Flows) -> Modeled
-    ensures { λ r. ⌜ Gives (now (list .entry)) t (divided (binOf operator) (operandsOf e) (flowsOf f)) (now (list .exit)) (r .tally) (modeledOf r) ⌝ }
-{
-    let division = new_ite(list, t, NodeType::Word, e.flag, e.rs2, f.division);
-    let x = new_bin(list, division.tally, operator, e.rs1, e.rs2);
-    let tally = x.tally;
-    let its_division = division.node;
-    let node = x.node;
-    let mut g = f;
-    g.division = its_division;
-    Modeled {
-        tally: tally,
-        flows: g,
-        outcome: Outcome::Register(node),
-    }
-}
-
 // The condition, and its negation.
 pub fn model_branch(
     list: &mut [u64],
@@ -107,23 +87,6 @@ pub fn model_sltu(list: &mut [u64], t: Tally, e: Operands, f: Flows) -> Modeled
     Modeled {
         tally: tally,
         flows: f,
-        outcome: Outcome::Register(node),
-    }
-}
-
-pub fn model_remu(list: &mut [u64], t: Tally, e: Operands, f: Flows) -> Modeled
-    ensures { λ r. ⌜ Gives (now (list .entry)) t (modelRemu (operandsOf e) (flowsOf f)) (now (list .exit)) (r .tally) (modeledOf r) ⌝ }
-{
-    let remainder = new_ite(list, t, NodeType::Word, e.flag, e.rs2, f.remainder);
-    let x = new_bin(list, remainder.tally, Bin::Rem, e.rs1, e.rs2);
-    let tally = x.tally;
-    let its_remainder = remainder.node;
-    let node = x.node;
-    let mut g = f;
-    g.remainder = its_remainder;
-    Modeled {
-        tally: tally,
-        flows: g,
         outcome: Outcome::Register(node),
     }
 }

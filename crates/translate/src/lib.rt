@@ -3,10 +3,10 @@
 use btor2::Name;
 use btor2::NodeRef;
 use btor2::NodeType;
-use builder::Bin;
 use builder::Tally;
-use builder::new_bad;
-use builder::new_ite;
+use builder_lines::Bin;
+use builder_lines::new_bad;
+use builder_lines::new_ite;
 use builder_ops::Operator;
 use models::Flows;
 use models::Modeled;
@@ -87,17 +87,17 @@ fn model_kind(
     match kind {
         LUI => models_immediate::constant(list, t, f, imm),
         AUIPC => models_immediate::constant(list, t, f, imm),
-        LB => models_memory::load(list, t, e, f, z, imm, 56, true),
-        LH => models_memory::load(list, t, e, f, z, imm, 48, true),
-        LW => models_memory::load(list, t, e, f, z, imm, 32, true),
-        LD => models_memory::model_ld(list, t, e, f, z, imm),
-        LBU => models_memory::load(list, t, e, f, z, imm, 56, false),
-        LHU => models_memory::load(list, t, e, f, z, imm, 48, false),
-        SB => models_memory::store(list, t, e, f, z, imm, 0xff),
-        SH => models_memory::store(list, t, e, f, z, imm, 0xffff),
-        SW => models_memory::store(list, t, e, f, z, imm, 0xffff_ffff),
-        SD => models_memory::model_sd(list, t, e, f, z, imm),
-        ADDI => models_immediate::model_addi(list, t, e, f, imm, d, z, s),
+        LB => models_load::load(list, t, e, f, z, imm, 56, true),
+        LH => models_load::load(list, t, e, f, z, imm, 48, true),
+        LW => models_load::load(list, t, e, f, z, imm, 32, true),
+        LD => models_load::model_ld(list, t, e, f, z, imm),
+        LBU => models_load::load(list, t, e, f, z, imm, 56, false),
+        LHU => models_load::load(list, t, e, f, z, imm, 48, false),
+        SB => models_store::store(list, t, e, f, z, imm, 0xff),
+        SH => models_store::store(list, t, e, f, z, imm, 0xffff),
+        SW => models_store::store(list, t, e, f, z, imm, 0xffff_ffff),
+        SD => models_store::model_sd(list, t, e, f, z, imm),
+        ADDI => models_addition::model_addi(list, t, e, f, imm, d, z, s),
         SLTIU => models_immediate::model_sltiu(list, t, e, f, imm),
         XORI => models_immediate::with_constant(list, t, Operator::Xor, e, f, imm),
         ORI => models_immediate::with_constant(list, t, Operator::Or, e, f, imm),
@@ -105,7 +105,7 @@ fn model_kind(
         SLLI => models_immediate::with_constant(list, t, Operator::Sll, e, f, imm),
         SRLI => models_immediate::with_constant(list, t, Operator::Srl, e, f, imm),
         SRAI => models_immediate::with_constant(list, t, Operator::Sra, e, f, imm),
-        ADDIW => models_immediate::model_addiw(list, t, e, f, imm),
+        ADDIW => models_addition::model_addiw(list, t, e, f, imm),
         SLLIW => models_immediate::model_slliw(list, t, e, f, imm),
         SRLIW => models_immediate::shifted_back(list, t, Operator::Srl, e, f, imm),
         SRAIW => models_immediate::shifted_back(list, t, Operator::Sra, e, f, imm),
@@ -117,15 +117,15 @@ fn model_kind(
         SRA => models_register::shifted(list, t, Operator::Sra, e, f),
         OR => models_register::with_register(list, t, Operator::Or, e, f),
         AND => models_register::with_register(list, t, Operator::And, e, f),
-        MUL => models_word::model_mul(list, t, e, f),
-        DIV => models_register::divided(list, t, Bin::Div, e, f),
-        DIVU => models_register::divided(list, t, Bin::Divu, e, f),
-        REMU => models_register::model_remu(list, t, e, f),
+        MUL => models_product::model_mul(list, t, e, f),
+        DIV => models_division::divided(list, t, Bin::Div, e, f),
+        DIVU => models_division::divided(list, t, Bin::Divu, e, f),
+        REMU => models_division::model_remu(list, t, e, f),
         ADDW => models_word::summed_word(list, t, Bin::Add, e, f),
-        DIVW => models_word::model_divw(list, t, e, f),
+        DIVW => models_division::model_divw(list, t, e, f),
         SUBW => models_word::summed_word(list, t, Bin::Sub, e, f),
         SLLW => models_word::model_sllw(list, t, e, f),
-        MULW => models_word::model_mulw(list, t, e, f),
+        MULW => models_product::model_mulw(list, t, e, f),
         BEQ => models_register::model_branch(list, t, Operator::Eq, e, f),
         BNE => models_register::model_branch(list, t, Operator::Neq, e, f),
         BLT => models_register::model_branch(list, t, Operator::Slt, e, f),

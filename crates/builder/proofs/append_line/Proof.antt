@@ -15,7 +15,7 @@ add-t18 : tie.Need-add-t18
 add-t18 c =
     let p = c .before .before .before in
     let a = p .before .before .before .args in
-    let there : a .t .lines < length (now (a .list)) / stride = ltb-true _ _ (sym (p .put .ensures .0) ∙ c .if1 .taken) in
+    let there : a .given .lines < length (now (a .list)) / stride = ltb-true _ _ (sym (p .put .ensures .0) ∙ c .if1 .taken) in
     record { fits = omega (arith, there, p .before .before .before .good .0 .0) }
 
 returns : tie.Need-returns

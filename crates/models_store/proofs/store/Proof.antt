@@ -1,0 +1,11 @@
+use Rattle.models.specs.Counters.{store}
+use Rattle.builder.proofs.Gives.{on, kept, free}
+use Rattle.models_store.proofs.store.Statement.{statement}
+use Rattle.models_store.proofs.store.Tie as tie
+
+returns : tie.Need-returns
+unfolding store
+returns c = search on
+
+pub store-spec : {M : Type 1} → statement M
+store-spec = tie.close (tie.spec free free (λ c. kept (returns c)) returns)
