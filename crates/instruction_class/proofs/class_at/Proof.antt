@@ -1,23 +1,18 @@
--- The table's rule is one test at each of its fifty entries, which antt computes. Assumes nothing.
+-- The table holds a letter for each kind, which antt computes from the definition. Assumes nothing.
 use Prim.Native.Nat.{ℕ, _<_}
 use mathlib.Core.Path.{_≡_, refl, sym, ap, _∙_}
-use mathlib.Core.Bool.{Bool, cond}
-use mathlib.Core.List.{List, [], _∷_}
+use mathlib.Core.Bool.{cond}
 use borrow.Author.Needs.{needs}
 use borrow.Author.Tests.{ne-eqb}
-use lib.Dec.{eqb, eqb→eq}
+use lib.Dec.{eqb}
 use lib.ListN.{getD}
 use Rattle.riscv.specs.Kind.{kindAt}
-use Rattle.bitvec.proofs.Below.{allBelow, at}
+use Rattle.bitvec.proofs.Below.{tabulate, tabulated}
 use Rattle.instruction_class.specs.declared.Class.{Class}
 use Rattle.instruction_class.specs.declared.Class.the-variants.{Plain, Access, Addition, Branch, Jump, Indirect, Call}
 use Rattle.instruction_class.specs.Class.{class}
 use Rattle.instruction_class.proofs.class_at.Statement.{statement}
 use Rattle.instruction_class.proofs.class_at.Tie as tie
-
--- the letters as they are stored
-abbrev table : List ℕ
-table = 112 ∷ 112 ∷ 109 ∷ 109 ∷ 109 ∷ 109 ∷ 109 ∷ 109 ∷ 109 ∷ 109 ∷ 109 ∷ 109 ∷ 97 ∷ 112 ∷ 112 ∷ 112 ∷ 112 ∷ 112 ∷ 112 ∷ 112 ∷ 112 ∷ 112 ∷ 112 ∷ 112 ∷ 112 ∷ 112 ∷ 112 ∷ 112 ∷ 112 ∷ 112 ∷ 112 ∷ 112 ∷ 112 ∷ 112 ∷ 112 ∷ 112 ∷ 112 ∷ 112 ∷ 112 ∷ 112 ∷ 112 ∷ 98 ∷ 98 ∷ 98 ∷ 98 ∷ 98 ∷ 98 ∷ 106 ∷ 114 ∷ 101 ∷ []
 
 abbrev letterOf : Class → ℕ
 letterOf Plain = 112
@@ -40,33 +35,34 @@ class-back Jump = refl
 class-back Indirect = refl
 class-back Call = refl
 
-right : ℕ → Bool
-right n = eqb (letterOf (class (kindAt n))) (getD table n 0)
+abbrev letter : ℕ → ℕ
+letter n = letterOf (class (kindAt n))
 
-entry : (n : ℕ) → n < 50 → classAt (getD table n 0) ≡ class (kindAt n)
-unfolding right
-entry n h = ap classAt (sym (eqb→eq (letterOf (class (kindAt n))) (getD table n 0) (at 50 right tt n h))) ∙ class-back (class (kindAt n))
+-- what a letter that was read says of its kind
+says : (n x : ℕ) → n < 50 → getD (tabulate letter 0 50) n 0 ≡ x → classAt x ≡ class (kindAt n)
+says n x h e = ap classAt (sym e ∙ tabulated letter 50 n 0 h) ∙ class-back (class (kindAt n))
 
 returns : tie.Need-returns
-returns c = rw (c .match .keys1) at (entry (c .before .before .before .args .kind) (c .before .before .before .pre))
+returns c = says (c .before .before .before .args .kind) 112 (c .before .before .before .pre) (c .match .keys1)
 
 returns-2 : tie.Need-returns-2
-returns-2 c = rw (c .match .keys2) at (entry (c .before .before .before .args .kind) (c .before .before .before .pre))
+returns-2 c = says (c .before .before .before .args .kind) 109 (c .before .before .before .pre) (c .match .keys2)
 
 returns-3 : tie.Need-returns-3
-returns-3 c = rw (c .match .keys3) at (entry (c .before .before .before .args .kind) (c .before .before .before .pre))
+returns-3 c = says (c .before .before .before .args .kind) 97 (c .before .before .before .pre) (c .match .keys3)
 
 returns-4 : tie.Need-returns-4
-returns-4 c = rw (c .match .keys4) at (entry (c .before .before .before .args .kind) (c .before .before .before .pre))
+returns-4 c = says (c .before .before .before .args .kind) 98 (c .before .before .before .pre) (c .match .keys4)
 
 returns-5 : tie.Need-returns-5
-returns-5 c = rw (c .match .keys5) at (entry (c .before .before .before .args .kind) (c .before .before .before .pre))
+returns-5 c = says (c .before .before .before .args .kind) 106 (c .before .before .before .pre) (c .match .keys5)
 
 returns-6 : tie.Need-returns-6
-returns-6 c = rw (c .match .keys6) at (entry (c .before .before .before .args .kind) (c .before .before .before .pre))
+returns-6 c = says (c .before .before .before .args .kind) 114 (c .before .before .before .pre) (c .match .keys6)
 
 returns-7 : tie.Need-returns-7
-returns-7 c = simp (ne-eqb _ _ (c .match .rest .0 .0 .0 .0 .0 .1), ne-eqb _ _ (c .match .rest .0 .0 .0 .0 .1), ne-eqb _ _ (c .match .rest .0 .0 .0 .1), ne-eqb _ _ (c .match .rest .0 .0 .1), ne-eqb _ _ (c .match .rest .0 .1), ne-eqb _ _ (c .match .rest .1)) at (entry (c .before .before .before .args .kind) (c .before .before .before .pre))
+returns-7 c =
+    simp (ne-eqb _ _ (c .match .rest .0 .0 .0 .0 .0 .1), ne-eqb _ _ (c .match .rest .0 .0 .0 .0 .1), ne-eqb _ _ (c .match .rest .0 .0 .0 .1), ne-eqb _ _ (c .match .rest .0 .0 .1), ne-eqb _ _ (c .match .rest .0 .1), ne-eqb _ _ (c .match .rest .1)) at (says (c .before .before .before .args .kind) _ (c .before .before .before .pre) refl)
 
 pub class-at-spec : {M : Type 1} → statement M
 class-at-spec = tie.close (tie.spec (λ c. search needs) returns returns-2 returns-3 returns-4 returns-5 returns-6 returns-7)

@@ -1,23 +1,18 @@
--- The table's rule is one test at each of its fifty entries, which antt computes. Assumes nothing.
+-- The table holds a letter for each kind, which antt computes from the definition. Assumes nothing.
 use Prim.Native.Nat.{ℕ, _<_}
 use mathlib.Core.Path.{_≡_, refl, sym, ap, _∙_}
-use mathlib.Core.Bool.{Bool, cond}
-use mathlib.Core.List.{List, [], _∷_}
+use mathlib.Core.Bool.{cond}
 use borrow.Author.Needs.{needs}
 use borrow.Author.Tests.{ne-eqb}
-use lib.Dec.{eqb, eqb→eq}
+use lib.Dec.{eqb}
 use lib.ListN.{getD}
 use Rattle.riscv.specs.declared.Format.{Format}
 use Rattle.riscv.specs.declared.Format.the-variants.{R, I, S, B, U, J, System}
 use Rattle.riscv.specs.Kind.{kindAt}
 use Rattle.riscv.specs.Format.{format}
-use Rattle.bitvec.proofs.Below.{allBelow, at}
+use Rattle.bitvec.proofs.Below.{tabulate, tabulated}
 use Rattle.riscv.proofs.format_of.Statement.{statement}
 use Rattle.riscv.proofs.format_of.Tie as tie
-
--- the letters as they are stored
-abbrev table : List ℕ
-table = 85 ∷ 85 ∷ 73 ∷ 73 ∷ 73 ∷ 73 ∷ 73 ∷ 73 ∷ 83 ∷ 83 ∷ 83 ∷ 83 ∷ 73 ∷ 73 ∷ 73 ∷ 73 ∷ 73 ∷ 73 ∷ 73 ∷ 73 ∷ 73 ∷ 73 ∷ 73 ∷ 73 ∷ 82 ∷ 82 ∷ 82 ∷ 82 ∷ 82 ∷ 82 ∷ 82 ∷ 82 ∷ 82 ∷ 82 ∷ 82 ∷ 82 ∷ 82 ∷ 82 ∷ 82 ∷ 82 ∷ 82 ∷ 66 ∷ 66 ∷ 66 ∷ 66 ∷ 66 ∷ 66 ∷ 74 ∷ 73 ∷ 45 ∷ []
 
 abbrev letterOf : Format → ℕ
 letterOf R = 82
@@ -40,33 +35,34 @@ format-back U = refl
 format-back J = refl
 format-back System = refl
 
-right : ℕ → Bool
-right n = eqb (letterOf (format (kindAt n))) (getD table n 0)
+abbrev letter : ℕ → ℕ
+letter n = letterOf (format (kindAt n))
 
-entry : (n : ℕ) → n < 50 → formatAt (getD table n 0) ≡ format (kindAt n)
-unfolding right
-entry n h = ap formatAt (sym (eqb→eq (letterOf (format (kindAt n))) (getD table n 0) (at 50 right tt n h))) ∙ format-back (format (kindAt n))
+-- what a letter that was read says of its kind
+says : (n x : ℕ) → n < 50 → getD (tabulate letter 0 50) n 0 ≡ x → formatAt x ≡ format (kindAt n)
+says n x h e = ap formatAt (sym e ∙ tabulated letter 50 n 0 h) ∙ format-back (format (kindAt n))
 
 returns : tie.Need-returns
-returns c = rw (c .match .keys1) at (entry (c .before .before .before .args .kind) (c .before .before .before .pre))
+returns c = says (c .before .before .before .args .kind) 82 (c .before .before .before .pre) (c .match .keys1)
 
 returns-2 : tie.Need-returns-2
-returns-2 c = rw (c .match .keys2) at (entry (c .before .before .before .args .kind) (c .before .before .before .pre))
+returns-2 c = says (c .before .before .before .args .kind) 73 (c .before .before .before .pre) (c .match .keys2)
 
 returns-3 : tie.Need-returns-3
-returns-3 c = rw (c .match .keys3) at (entry (c .before .before .before .args .kind) (c .before .before .before .pre))
+returns-3 c = says (c .before .before .before .args .kind) 83 (c .before .before .before .pre) (c .match .keys3)
 
 returns-4 : tie.Need-returns-4
-returns-4 c = rw (c .match .keys4) at (entry (c .before .before .before .args .kind) (c .before .before .before .pre))
+returns-4 c = says (c .before .before .before .args .kind) 66 (c .before .before .before .pre) (c .match .keys4)
 
 returns-5 : tie.Need-returns-5
-returns-5 c = rw (c .match .keys5) at (entry (c .before .before .before .args .kind) (c .before .before .before .pre))
+returns-5 c = says (c .before .before .before .args .kind) 85 (c .before .before .before .pre) (c .match .keys5)
 
 returns-6 : tie.Need-returns-6
-returns-6 c = rw (c .match .keys6) at (entry (c .before .before .before .args .kind) (c .before .before .before .pre))
+returns-6 c = says (c .before .before .before .args .kind) 74 (c .before .before .before .pre) (c .match .keys6)
 
 returns-7 : tie.Need-returns-7
-returns-7 c = simp (ne-eqb _ _ (c .match .rest .0 .0 .0 .0 .0 .1), ne-eqb _ _ (c .match .rest .0 .0 .0 .0 .1), ne-eqb _ _ (c .match .rest .0 .0 .0 .1), ne-eqb _ _ (c .match .rest .0 .0 .1), ne-eqb _ _ (c .match .rest .0 .1), ne-eqb _ _ (c .match .rest .1)) at (entry (c .before .before .before .args .kind) (c .before .before .before .pre))
+returns-7 c =
+    simp (ne-eqb _ _ (c .match .rest .0 .0 .0 .0 .0 .1), ne-eqb _ _ (c .match .rest .0 .0 .0 .0 .1), ne-eqb _ _ (c .match .rest .0 .0 .0 .1), ne-eqb _ _ (c .match .rest .0 .0 .1), ne-eqb _ _ (c .match .rest .0 .1), ne-eqb _ _ (c .match .rest .1)) at (says (c .before .before .before .args .kind) _ (c .before .before .before .pre) refl)
 
 pub format-of-spec : {M : Type 1} → statement M
 format-of-spec = tie.close (tie.spec (λ c. search needs) returns returns-2 returns-3 returns-4 returns-5 returns-6 returns-7)
