@@ -4,12 +4,12 @@
 //   3 LINES PLACE                                       looks a place up
 //   4 AREA AT LEN                                       finds a name in `host` or in `own area`
 use btor2::Name;
-use btor2::Nid;
 use btor2::NodeRef;
 use btor2::get_sort;
 use btor2_list::Found;
 use btor2_list::Line;
 use btor2_list::Looked;
+use case_record::read_record;
 use decimal_text::read_decimal;
 use libc::STDIN_FILENO;
 use libc::STDOUT_FILENO;
@@ -50,37 +50,13 @@ fn run_line(text: &[u8], at: usize, list: &mut [u64]) -> usize {
 }
 
 fn run_put(text: &[u8], at: usize, list: &mut [u64]) -> usize {
-    let place = read_decimal(text, at);
-    let nid = read_decimal(text, place.next);
-    let kind = read_decimal(text, nid.next);
-    let sort = read_decimal(text, kind.next);
-    let op1 = read_decimal(text, sort.next);
-    let op2 = read_decimal(text, op1.next);
-    let op3 = read_decimal(text, op2.next);
-    let imm = read_decimal(text, op3.next);
-    let area = read_decimal(text, imm.next);
-    let from = read_decimal(text, area.next);
-    let len = read_decimal(text, from.next);
-    let line = Line {
-        nid: Nid(nid.value),
-        kind: kind.value,
-        sort: sort.value,
-        op1: NodeRef(op1.value as usize),
-        op2: NodeRef(op2.value as usize),
-        op3: NodeRef(op3.value as usize),
-        imm: imm.value,
-        name: Name {
-            area: area.value,
-            at: from.value,
-            len: len.value,
-        },
-    };
-    if btor2_list::put(list, NodeRef(place.value as usize), line) {
+    let read = read_record(text, at);
+    if btor2_list::put(list, read.place, read.line) {
         io::write_all(STDOUT_FILENO, b"put\n");
     } else {
         io::write_all(STDOUT_FILENO, b"outside\n");
     }
-    len.next
+    read.next
 }
 
 fn run_get(text: &[u8], at: usize, list: &[u64]) -> usize {

@@ -3,6 +3,7 @@ use Prim.Native.Nat.{ℕ, _+_, _-_, _*_, _%_, _^_}
 use mathlib.Core.Bool.{Bool, cond, _&&_}
 use mathlib.Core.List.{List, [], _∷_}
 use lib.Dec.{leb}
+use lib.ListN.{drop}
 use Rattle.decimal_text.specs.declared.Decimal.{Decimal}
 
 -- `0` to `9` in ASCII
@@ -13,3 +14,7 @@ digit b = leb 48 b && leb b 57
 unfoldable pub scan : ℕ → ℕ → List ℕ → Decimal
 scan value at [] = record { value = value; next = at }
 scan value at (b ∷ bs) = cond (digit b) (scan ((value * 10 + (b - 48)) % 2 ^ 64) (at + 1) bs) (record { value = value; next = at + 1 })
+
+-- the number whose digits start at a place of a text
+unfoldable pub numberFrom : List ℕ → ℕ → Decimal
+numberFrom text from = scan 0 from (drop from text)

@@ -1,8 +1,7 @@
 // Decimal numbers in a text: what the programs that run tables of cases read.
 ghost use mathlib.Core.Path.{_≡_};
 ghost use Prim.Native.Nat.{_+_, _-_, _*_, _%_, _^_, _≤_};
-ghost use lib.ListN.{drop};
-ghost use Rattle.decimal_text.specs.Scan.{scan};
+ghost use Rattle.decimal_text.specs.Scan.{numberFrom};
 
 // A number, and the place behind the byte that ended it.
 pub struct Decimal {
@@ -12,7 +11,7 @@ pub struct Decimal {
 
 // The number whose digits start at a place, modulo 2^64.
 pub fn read_decimal(text: &[u8], from: usize) -> Decimal
-    ensures { λ r. ⌜ r ≡ scan 0 from (drop from (now (text .entry))) ⌝ }
+    ensures { λ r. ⌜ r ≡ numberFrom (now (text .entry)) from ⌝ }
 {
     let mut value: u64 = 0;
     let mut at = from;

@@ -6,34 +6,20 @@
 // Command 1 writes its lines as the ten numbers of their records, a bad line's name behind it, then edges, dispatches, bads, the tally and
 // the counts, and the places of the 40 flows; or its refusal. Places are those of the list: identifier 20 stands at 0.
 // tools/lowering_cases.py made the commands and what is to be written.
-use btor2::Name;
-use btor2::Nid;
 use btor2::NodeRef;
 use btor2_list::BAD;
-use btor2_list::CONST;
 use btor2_list::Found;
 use btor2_list::Line;
-use btor2_list::STATE;
 use builder::Tally;
+use case_state::Step;
+use case_state::read_counts;
+use case_state::read_role;
 use decimal_text::read_decimal;
 use libc::STDIN_FILENO;
 use libc::STDOUT_FILENO;
 use lowering_refusals::Counts;
 use lowering_refusals::State;
 use riscv::Instruction;
-
-// The sorts as printed.
-const BIT: u64 = 1;
-
-const WORD: u64 = 2;
-
-const MEMORY: u64 = 3;
-
-// The state after a command, and where the next one starts.
-struct Step {
-    state: State,
-    next: usize,
-}
 
 fn main() {
     let mut buffer = [0u8; 65536];
@@ -61,7 +47,8 @@ fn run(
     dispatches: &mut [u64],
     bads: &mut [u64],
 ) {
-    let mut state = start(list);
+    listing_start::put_start(list);
+    let mut state = listing_start::start_state();
     let mut at = 0;
     while at < text.len() {
         let step = run_line(text, at, list, names, edges, dispatches, bads, state);
@@ -91,161 +78,17 @@ fn run_line(
         return run_lower(text, from, list, names, edges, dispatches, bads, state);
     }
     if which == 2 {
-        let fresh = start(list);
+        listing_start::put_start(list);
+        let fresh = listing_start::start_state();
         return Step {
             state: fresh,
             next: from,
         };
     }
     if which == 3 {
-        return run_counts(text, from, state);
+        return read_counts(text, from, state);
     }
-    run_role(text, from, state)
-}
-
-// The listing's start: the bits and words 0 and 1, then states. No lowering looks at their names, which are left out.
-fn start(list: &mut [u64]) -> State {
-    put_constants(list);
-    put_registers(list);
-    put_memory_and_flag(list);
-    let roles = start_roles();
-    State {
-        tally: Tally { lines: 39, nid: 59 },
-        counts: Counts {
-            names: 0,
-            edges: 0,
-            dispatches: 0,
-            bads: 0,
-        },
-        roles,
-    }
-}
-
-fn put_constants(list: &mut [u64]) {
-    put_start(list, 0, CONST, BIT, 0);
-    put_start(list, 1, CONST, BIT, 1);
-    put_start(list, 2, CONST, WORD, 0);
-    put_start(list, 3, CONST, WORD, 1);
-}
-
-// The memory, the counter, the counter maximum and the flag.
-fn put_memory_and_flag(list: &mut [u64]) {
-    put_start(list, 35, STATE, MEMORY, 0);
-    put_start(list, 36, STATE, MEMORY, 0);
-    put_start(list, 37, STATE, WORD, 0);
-    put_start(list, 38, STATE, BIT, 0);
-}
-
-// x1 to x31.
-fn put_registers(list: &mut [u64]) {
-    let mut place = 4;
-    while place < 35 {
-        put_start(list, place, STATE, WORD, 0);
-        place += 1;
-    }
-}
-
-fn put_start(list: &mut [u64], place: usize, kind: u64, sort: u64, imm: u64) {
-    let line = Line {
-        nid: Nid(std::num::wrapping_add_u64(place as u64, 20)),
-        kind,
-        sort,
-        op1: NodeRef(0),
-        op2: NodeRef(0),
-        op3: NodeRef(0),
-        imm,
-        name: Name {
-            area: 0,
-            at: 0,
-            len: 0,
-        },
-    };
-    btor2_list::put(list, NodeRef(place), line);
-}
-
-// In the order of the roles: constants, memory nodes, x0 to x31, then the flows.
-fn start_roles() -> [NodeRef; 79] {
-    [
-        NodeRef(0),
-        NodeRef(1),
-        NodeRef(2),
-        NodeRef(3),
-        NodeRef(35),
-        NodeRef(36),
-        NodeRef(37),
-        NodeRef(2),
-        NodeRef(4),
-        NodeRef(5),
-        NodeRef(6),
-        NodeRef(7),
-        NodeRef(8),
-        NodeRef(9),
-        NodeRef(10),
-        NodeRef(11),
-        NodeRef(12),
-        NodeRef(13),
-        NodeRef(14),
-        NodeRef(15),
-        NodeRef(16),
-        NodeRef(17),
-        NodeRef(18),
-        NodeRef(19),
-        NodeRef(20),
-        NodeRef(21),
-        NodeRef(22),
-        NodeRef(23),
-        NodeRef(24),
-        NodeRef(25),
-        NodeRef(26),
-        NodeRef(27),
-        NodeRef(28),
-        NodeRef(29),
-        NodeRef(30),
-        NodeRef(31),
-        NodeRef(32),
-        NodeRef(33),
-        NodeRef(34),
-        NodeRef(4),
-        NodeRef(5),
-        NodeRef(6),
-        NodeRef(7),
-        NodeRef(8),
-        NodeRef(9),
-        NodeRef(10),
-        NodeRef(11),
-        NodeRef(12),
-        NodeRef(13),
-        NodeRef(14),
-        NodeRef(15),
-        NodeRef(16),
-        NodeRef(17),
-        NodeRef(18),
-        NodeRef(19),
-        NodeRef(20),
-        NodeRef(21),
-        NodeRef(22),
-        NodeRef(23),
-        NodeRef(24),
-        NodeRef(25),
-        NodeRef(26),
-        NodeRef(27),
-        NodeRef(28),
-        NodeRef(29),
-        NodeRef(30),
-        NodeRef(31),
-        NodeRef(32),
-        NodeRef(33),
-        NodeRef(34),
-        NodeRef(35),
-        NodeRef(36),
-        NodeRef(37),
-        NodeRef(3),
-        NodeRef(3),
-        NodeRef(2),
-        NodeRef(0),
-        NodeRef(0),
-        NodeRef(0),
-    ]
+    read_role(text, from, state)
 }
 
 fn run_lower(
@@ -313,60 +156,6 @@ fn without_edges(state: State) -> State {
         },
         roles,
     }
-}
-
-fn run_counts(text: &[u8], at: usize, state: State) -> Step {
-    let lines = read_decimal(text, at);
-    let nid = read_decimal(text, lines.next);
-    let names = read_decimal(text, nid.next);
-    let edges = read_decimal(text, names.next);
-    let dispatches = read_decimal(text, edges.next);
-    let bads = read_decimal(text, dispatches.next);
-    let roles = state.roles;
-    let set = State {
-        tally: Tally {
-            lines: lines.value as usize,
-            nid: nid.value,
-        },
-        counts: Counts {
-            names: names.value as usize,
-            edges: edges.value as usize,
-            dispatches: dispatches.value as usize,
-            bads: bads.value as usize,
-        },
-        roles,
-    };
-    Step {
-        state: set,
-        next: bads.next,
-    }
-}
-
-fn run_role(text: &[u8], at: usize, state: State) -> Step {
-    let role = read_decimal(text, at);
-    let place = read_decimal(text, role.next);
-    let tally = state.tally;
-    let counts = state.counts;
-    let places = state.roles;
-    let roles = with_role(places, role.value as usize, NodeRef(place.value as usize));
-    let set = State {
-        tally,
-        counts,
-        roles,
-    };
-    Step {
-        state: set,
-        next: place.next,
-    }
-}
-
-fn with_role(roles: [NodeRef; 79], role: usize, place: NodeRef) -> [NodeRef; 79] {
-    if role >= roles::ROLES {
-        return roles;
-    }
-    let mut next = roles;
-    next[role] = place;
-    next
 }
 
 // What a call changed: the state before it says where it wrote.

@@ -3,10 +3,7 @@
 //   2 LINES FROM COUNT ROOM                             prints a run into an output of ROOM bytes, all full stops before
 // Command 2 writes the length and the text, or the refusal, and then how many full stops are left behind the text.
 // tools/print_cases.py made the commands and what is to be written; the text is what the unchanged Rust prints.
-use btor2::Name;
-use btor2::Nid;
-use btor2::NodeRef;
-use btor2_list::Line;
+use case_record::read_record;
 use decimal_text::read_decimal;
 use libc::STDIN_FILENO;
 use libc::STDOUT_FILENO;
@@ -42,33 +39,9 @@ fn run_line(text: &[u8], at: usize, list: &mut [u64]) -> usize {
 }
 
 fn run_put(text: &[u8], at: usize, list: &mut [u64]) -> usize {
-    let place = read_decimal(text, at);
-    let nid = read_decimal(text, place.next);
-    let kind = read_decimal(text, nid.next);
-    let sort = read_decimal(text, kind.next);
-    let op1 = read_decimal(text, sort.next);
-    let op2 = read_decimal(text, op1.next);
-    let op3 = read_decimal(text, op2.next);
-    let imm = read_decimal(text, op3.next);
-    let area = read_decimal(text, imm.next);
-    let from = read_decimal(text, area.next);
-    let len = read_decimal(text, from.next);
-    let line = Line {
-        nid: Nid(nid.value),
-        kind: kind.value,
-        sort: sort.value,
-        op1: NodeRef(op1.value as usize),
-        op2: NodeRef(op2.value as usize),
-        op3: NodeRef(op3.value as usize),
-        imm: imm.value,
-        name: Name {
-            area: area.value,
-            at: from.value,
-            len: len.value,
-        },
-    };
-    btor2_list::put(list, NodeRef(place.value as usize), line);
-    len.next
+    let read = read_record(text, at);
+    btor2_list::put(list, read.place, read.line);
+    read.next
 }
 
 fn run_print(text: &[u8], at: usize, list: &[u64]) -> usize {

@@ -4,22 +4,17 @@
 //   3 ROLE PLACE                                        sets a role
 //   4 WORDS HOST NAMES EDGES DISPATCHES BADS            lends as much of each list and area, and checks the start
 // What a command sets stays for those behind it. tools/start_cases.py made the commands and what is to be written.
-use btor2::Name;
-use btor2::Nid;
 use btor2::NodeRef;
-use btor2_list::Line;
 use builder::Tally;
+use case_record::read_record;
+use case_state::Step;
+use case_state::read_counts;
+use case_state::read_role;
 use decimal_text::read_decimal;
 use libc::STDIN_FILENO;
 use libc::STDOUT_FILENO;
 use lowering_refusals::Counts;
 use lowering_refusals::State;
-
-// The state after a command, and where the next one starts.
-struct Step {
-    state: State,
-    next: usize,
-}
 
 fn main() {
     let mut buffer = [0u8; 262144];
@@ -64,97 +59,19 @@ fn run_line(text: &[u8], at: usize, list: &mut [u64], state: State) -> Step {
         return Step { state, next };
     }
     if which == 2 {
-        return run_counts(text, from, state);
+        return read_counts(text, from, state);
     }
     if which == 3 {
-        return run_role(text, from, state);
+        return read_role(text, from, state);
     }
     let next = run_check(text, from, list, state);
     Step { state, next }
 }
 
 fn run_put(text: &[u8], at: usize, list: &mut [u64]) -> usize {
-    let place = read_decimal(text, at);
-    let nid = read_decimal(text, place.next);
-    let kind = read_decimal(text, nid.next);
-    let sort = read_decimal(text, kind.next);
-    let op1 = read_decimal(text, sort.next);
-    let op2 = read_decimal(text, op1.next);
-    let op3 = read_decimal(text, op2.next);
-    let imm = read_decimal(text, op3.next);
-    let area = read_decimal(text, imm.next);
-    let from = read_decimal(text, area.next);
-    let len = read_decimal(text, from.next);
-    let line = Line {
-        nid: Nid(nid.value),
-        kind: kind.value,
-        sort: sort.value,
-        op1: NodeRef(op1.value as usize),
-        op2: NodeRef(op2.value as usize),
-        op3: NodeRef(op3.value as usize),
-        imm: imm.value,
-        name: Name {
-            area: area.value,
-            at: from.value,
-            len: len.value,
-        },
-    };
-    btor2_list::put(list, NodeRef(place.value as usize), line);
-    len.next
-}
-
-fn run_counts(text: &[u8], at: usize, state: State) -> Step {
-    let lines = read_decimal(text, at);
-    let nid = read_decimal(text, lines.next);
-    let names = read_decimal(text, nid.next);
-    let edges = read_decimal(text, names.next);
-    let dispatches = read_decimal(text, edges.next);
-    let bads = read_decimal(text, dispatches.next);
-    let roles = state.roles;
-    let set = State {
-        tally: Tally {
-            lines: lines.value as usize,
-            nid: nid.value,
-        },
-        counts: Counts {
-            names: names.value as usize,
-            edges: edges.value as usize,
-            dispatches: dispatches.value as usize,
-            bads: bads.value as usize,
-        },
-        roles,
-    };
-    Step {
-        state: set,
-        next: bads.next,
-    }
-}
-
-fn run_role(text: &[u8], at: usize, state: State) -> Step {
-    let role = read_decimal(text, at);
-    let place = read_decimal(text, role.next);
-    let tally = state.tally;
-    let counts = state.counts;
-    let places = state.roles;
-    let roles = with_role(places, role.value as usize, NodeRef(place.value as usize));
-    let set = State {
-        tally,
-        counts,
-        roles,
-    };
-    Step {
-        state: set,
-        next: place.next,
-    }
-}
-
-fn with_role(roles: [NodeRef; 79], role: usize, place: NodeRef) -> [NodeRef; 79] {
-    if role >= roles::ROLES {
-        return roles;
-    }
-    let mut next = roles;
-    next[role] = place;
-    next
+    let read = read_record(text, at);
+    btor2_list::put(list, read.place, read.line);
+    read.next
 }
 
 fn run_check(text: &[u8], at: usize, list: &[u64], state: State) -> usize {

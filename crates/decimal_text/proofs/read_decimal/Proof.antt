@@ -4,7 +4,7 @@ use mathlib.Core.Path.{_≡_, refl, sym, ap, _∙_}
 use native.Mathlib.Omega.{arith}
 use lib.ListN.{length, drop}
 use borrow.Author.Needs.{needs}
-use Rattle.decimal_text.specs.Scan.{scan}
+use Rattle.decimal_text.specs.Scan.{scan, numberFrom}
 use Rattle.decimal_text.proofs.Onward.{on-digit, at-low, at-high, at-end}
 use Rattle.decimal_text.proofs.read_decimal.Statement.{statement}
 use Rattle.decimal_text.proofs.read_decimal.Tie as tie
@@ -25,6 +25,7 @@ add-t10 : tie.Need-add-t10 Inv-loop μ-loop
 add-t10 c = search needs
 
 returns : tie.Need-returns Inv-loop μ-loop
+unfolding numberFrom
 returns c =
     let l = c .before .before .before in
     sym (at-low (l .before .before .args .text .now) (l .loop .value) (l .loop .at) (c .before .before .loop-test .taken) (c .if1 .taken)) ∙ l .loop .inv .1
@@ -33,6 +34,7 @@ add-t11 : tie.Need-add-t11 Inv-loop μ-loop
 add-t11 c = search needs
 
 returns-2 : tie.Need-returns-2 Inv-loop μ-loop
+unfolding numberFrom
 returns-2 c =
     let e = c .before in
     let l = e .before .before .before in
@@ -57,6 +59,7 @@ loop-again c =
     )
 
 returns-3 : tie.Need-returns-3 Inv-loop μ-loop
+unfolding numberFrom
 returns-3 c =
     let l = c .before in
     sym (at-end (l .before .before .args .text .now) (l .loop .value) (l .loop .at) (c .loop-test .left)) ∙ l .loop .inv .1
