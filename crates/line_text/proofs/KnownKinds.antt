@@ -15,7 +15,8 @@ use Rattle.btor2.specs.Op.{Op, const, read, write, bin, uext, ite, eq, and, or,
 use Rattle.btor2_list.specs.declared.Line.{Line}
 use Rattle.btor2_list.specs.Node.{withSort, opOf}
 use Rattle.line_text.proofs.Each.{Each, none, _▹_, at}
-use Rattle.line_text.proofs.Shape.{sorts, of-kind}
+use Rattle.line_text.proofs.Shape.{of-kind}
+use Rattle.line_text.specs.Tables.{sorts}
 
 -- ---- a test of the operator
 

@@ -1,32 +1,19 @@
 -- The lines of a list, as far as the words reach, by the tests of a lookup. Assumes nothing.
 use Prim.Native.Nat.{ℕ, _*_, _/_, min, _≤_, _<_}
-use mathlib.Core.Path.{_≡_, refl, sym, ap, _∙_}
+use mathlib.Core.Path.{_≡_, sym, ap, _∙_}
 use mathlib.Core.List.{List}
+use native.Mathlib.Nat.{add-zero}
 use native.Mathlib.Decide.{decLe}
 use native.Mathlib.Omega.{arith}
-use lib.ListN.{length, List·getD-eq-default}
+use lib.ListN.{length, getD, List·getD-eq-default}
 use borrow.Author.Tests.{lt-ltb, le-ltb}
-use Rattle.btor2.specs.declared.MaybeSort.{MaybeSort}
-use Rattle.btor2.specs.declared.MaybeSort.the-variants.{Sort, NoSort}
-use Rattle.btor2.specs.Op.{unknown, carried}
-use Rattle.btor2_list.specs.declared.Looked.{Looked}
-use Rattle.btor2_list.specs.declared.Looked.the-variants.{Outside, NoValue, Value}
+use Rattle.btor2.specs.Op.{unknown}
 use Rattle.btor2_list.specs.declared.Line.{Line}
 use Rattle.btor2_list.specs.declared.Found.the-variants.{Line as found, Outside as Outside′}
 use Rattle.btor2_list.specs.Record.{stride, lineAt, getAt}
 use Rattle.btor2_list.specs.Node.{Node, node, nodeOf}
-use Rattle.btor2_list.specs.Look.{seenAs, lookAt}
 use Rattle.btor2_list.proofs.View.{view-length, view-at}
 use Rattle.line_text.specs.Line.{nodes, nodeAt, nidAt}
-
-abbrev pub nidOf : Looked → ℕ
-nidOf Outside = 0
-nidOf (NoValue nid) = nid .0
-nidOf (Value nid s) = nid .0
-
-nid-seen : (nid : ℕ) (m : MaybeSort) → nidOf (seenAs nid m) ≡ nid
-nid-seen nid (Sort s) = refl
-nid-seen nid NoSort = refl
 
 nid : {m n : Node} → m ≡ n → m .nid ≡ n .nid
 nid e = ap (λ (x : Node). x .nid) e
@@ -44,19 +31,9 @@ module _ (ws : List ℕ) (n p : ℕ) where
   pub nid-outside : length (nodes ws n) ≤ p → nidAt (nodes ws n) p ≡ 0
   nid-outside h = nid (outside h)
 
-  pub look-nid : nidOf (lookAt ws n p) ≡ nidAt (nodes ws n) p
-  look-nid = go (decLe n p) (decLe (length ws / stride) p)
-    where
-      go : Dec (n ≤ p) → Dec (length ws / stride ≤ p) → nidOf (lookAt ws n p) ≡ nidAt (nodes ws n) p
-      go (yes h) k = rw (le-ltb p n h) (sym (nid-outside (omega (arith, length-nodes))))
-      go (no h) (yes k) =
-          let l : p < n = omega arith in
-          rw (lt-ltb p n l, le-ltb p (length ws / stride) k) (sym (nid-outside (omega (arith, length-nodes))))
-      go (no h) (no k) =
-          let x = nodeOf (lineAt ws (p * stride)) in
-          let l : p < n = omega arith in
-          let m : p < length ws / stride = omega arith in
-          rw (lt-ltb p n l, lt-ltb p (length ws / stride) m) (nid-seen (x .nid) (carried (x .op)) ∙ nid (sym (inside l m)))
+  pub nid-inside : p < n → p < length ws / stride → getD ws (p * stride) 0 ≡ nidAt (nodes ws n) p
+  unfolding lineAt
+  nid-inside h k = sym (nid (inside h k) ∙ rw add-zero)
 
   -- ---- the record at a place, by what getting it tells
 

@@ -19,14 +19,8 @@ use Rattle.btor2_list.specs.Node.{withSort, opOf}
 use Rattle.node_text.specs.Words.{word}
 use Rattle.node_text.specs.Row.{written}
 use Rattle.line_text.specs.Line.{lineText}
+use Rattle.line_text.specs.Tables.{sorts, counts}
 use Rattle.line_text.proofs.Each.{Each, none, _▹_, at}
-
--- the code's tables
-abbrev pub sorts : List ℕ
-sorts = 0 ∷ 0 ∷ 2 ∷ 3 ∷ 2 ∷ 2 ∷ 2 ∷ 2 ∷ 2 ∷ 2 ∷ 2 ∷ 2 ∷ 1 ∷ 2 ∷ 0 ∷ 1 ∷ 0 ∷ 0 ∷ 0 ∷ 0 ∷ 0 ∷ 0 ∷ 1 ∷ []
-
-abbrev pub counts : List ℕ
-counts = 0 ∷ 2 ∷ 3 ∷ 4 ∷ 3 ∷ 3 ∷ 3 ∷ 3 ∷ 3 ∷ 3 ∷ 3 ∷ 3 ∷ 3 ∷ 3 ∷ 4 ∷ 3 ∷ 3 ∷ 3 ∷ 2 ∷ 1 ∷ 3 ∷ 1 ∷ 1 ∷ []
 
 abbrev pub printedSort : ℕ → ℕ → ℕ
 printedSort k sort = cond (eqb (getD sorts k 0) 0) sort (getD sorts k 0)

@@ -3,18 +3,36 @@ use btor2::MaybeSort;
 use btor2::Name;
 use btor2::Nid;
 use btor2::NodeRef;
+use btor2_list::ADD;
+use btor2_list::AND;
 use btor2_list::BAD;
 use btor2_list::CONST;
+use btor2_list::DIV;
+use btor2_list::DIVU;
+use btor2_list::EQ;
 use btor2_list::EXT;
 use btor2_list::Found;
+use btor2_list::INPUT;
+use btor2_list::ITE;
 use btor2_list::Line;
-use btor2_list::Looked;
+use btor2_list::MUL;
+use btor2_list::NEXT;
+use btor2_list::NOT;
+use btor2_list::OR;
+use btor2_list::READ;
+use btor2_list::REM;
+use btor2_list::SLL;
+use btor2_list::SRL;
 use btor2_list::STATE;
+use btor2_list::SUB;
+use btor2_list::ULT;
+use btor2_list::WRITE;
 use node_text::Row;
 use node_text::put_row;
 ghost use mathlib.Core.Path.{_≡_};
 ghost use mathlib.Core.Bool.{cond, true, false};
 ghost use Prim.Native.Nat.{ℕ, _-_};
+ghost use lib.ListN.{getD};
 ghost use Rattle.text.specs.Put.{Put};
 ghost use Rattle.btor2.specs.Sort.{sortNumbered, width};
 ghost use Rattle.btor2.specs.declared.NodeType.{NodeType};
@@ -22,61 +40,73 @@ ghost use Rattle.btor2.specs.declared.MaybeSort.the-variants.{Sort, NoSort};
 ghost use Rattle.btor2.specs.Op.{mapOp, unknown};
 ghost use Rattle.btor2_list.specs.Node.{opOf, nodeOf};
 ghost use Rattle.node_text.specs.Row.{rowText};
+ghost use Rattle.line_text.specs.Tables.{sorts, counts};
 ghost use Rattle.line_text.specs.Line.{lineText, printedName, nodes, nodeAt, nidAt, nodeText, runText};
 
-// What stands behind the word of each kind's line, by the kind's number. The first number is a sort, which is fixed or, where 0 stands
-// here, the record's own; Bad's is its operand. The lines with one number have a name behind it.
-const SORTS: [u64; 23] = [
-    0, // init, which is no kind
-    0, // Const
-    2, // Read
-    3, // Write
-    2, // Add
-    2, // Sub
-    2, // Mul
-    2, // Divu
-    2, // Div
-    2, // Rem
-    2, // Sll
-    2, // Srl
-    1, // Ult
-    2, // Ext
-    0, // Ite
-    1, // Eq
-    0, // And
-    0, // Or
-    0, // Not
-    0, // State
-    0, // Next
-    0, // Input
-    1, // Bad
-];
+// What stands behind the word of each kind's line. The first number is a sort, which is fixed or, where 0 stands here, the record's own;
+// Bad's is its operand.
+fn fixed_sort(kind: u64) -> u64
+    ensures { λ r. ⌜ r ≡ getD sorts kind 0 ⌝ }
+{
+    match kind {
+        0 => 0, // init, which is no kind
+        CONST => 0,
+        READ => 2,
+        WRITE => 3,
+        ADD => 2,
+        SUB => 2,
+        MUL => 2,
+        DIVU => 2,
+        DIV => 2,
+        REM => 2,
+        SLL => 2,
+        SRL => 2,
+        ULT => 1,
+        EXT => 2,
+        ITE => 0,
+        EQ => 1,
+        AND => 0,
+        OR => 0,
+        NOT => 0,
+        STATE => 0,
+        NEXT => 0,
+        INPUT => 0,
+        BAD => 1,
+        _ => 0,
+    }
+}
 
-const NUMBERS: [u8; 23] = [
-    0, // init, which is no kind
-    2, // Const
-    3, // Read
-    4, // Write
-    3, // Add
-    3, // Sub
-    3, // Mul
-    3, // Divu
-    3, // Div
-    3, // Rem
-    3, // Sll
-    3, // Srl
-    3, // Ult
-    3, // Ext
-    4, // Ite
-    3, // Eq
-    3, // And
-    3, // Or
-    2, // Not
-    1, // State
-    3, // Next
-    1, // Input
-    1, // Bad
-];
+// The lines with one number have a name behind it.
+fn numbers(kind: u64) -> u8
+    ensures { λ r. ⌜ r ≡ getD counts kind 0 ⌝ }
+{
+    match kind {
+        0 => 0, // init, which is no kind
+        CONST => 2,
+        READ => 3,
+        WRITE => 4,
+        ADD => 3,
+        SUB => 3,
+        MUL => 3,
+        DIVU => 3,
+        DIV => 3,
+        REM => 3,
+        SLL => 3,
+        SRL => 3,
+        ULT => 3,
+        EXT => 3,
+        ITE => 4,
+        EQ => 3,
+        AND => 3,
+        OR => 3,
+        NOT => 2,
+        STATE => 1,
+        NEXT => 3,
+        INPUT => 1,
+        BAD => 1,
+        _ => 0,
+    }
+}
 
 fn pick(test: bool, x: u64, y: u64) -> u64
     ensures { λ r. ⌜ r ≡ cond test x y ⌝ }
@@ -109,7 +139,7 @@ fn known(line: Line) -> bool
     if kind == EXT {
         return is_sort(line.sort);
     }
-    if SORTS[kind as usize] != 0 {
+    if fixed_sort(kind) != 0 {
         return true;
     }
     is_sort(line.sort)
@@ -164,8 +194,8 @@ fn put_record<'a>(
     let nid = line.nid.0;
     let imm = line.imm;
     let k = kind as usize;
-    let fixed = SORTS[k];
-    let n = NUMBERS[k];
+    let fixed = fixed_sort(kind);
+    let n = numbers(kind);
     let sort = pick(fixed == 0, line.sort, fixed);
     let first = pick(kind == BAD, a.0, sort);
     let second = pick(kind == CONST, imm, a.0);
@@ -204,11 +234,14 @@ fn put_record<'a>(
 pub fn nid_at(list: &[u64], lines: usize, place: NodeRef) -> Nid
     ensures { λ r. ⌜ r .0 ≡ nidAt (nodes (now (list .entry)) lines) (place .0) ⌝ }
 {
-    match btor2_list::look(list, lines, place) {
-        Looked::Value(nid, _) => nid,
-        Looked::NoValue(nid) => nid,
-        Looked::Outside => Nid(0),
+    let p = place.0;
+    if lines <= p {
+        return Nid(0);
     }
+    if list.len() / btor2_list::STRIDE <= p {
+        return Nid(0);
+    }
+    Nid(list[p * btor2_list::STRIDE])
 }
 
 // A record of the list.

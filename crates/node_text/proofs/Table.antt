@@ -1,5 +1,6 @@
 -- The table of words that the code has, entry by entry. Assumes nothing.
-use Prim.Native.Nat.{ℕ, _*_, _≤_, _<_}
+use Prim.Native.Nat.{ℕ, suc, _*_, _≤_, _<_}
+use native.Mathlib.Omega.{arith}
 use mathlib.Core.Path.{_≡_, refl, ap}
 use mathlib.Core.Bool.{Bool, true, false, _&&_}
 use mathlib.Core.List.{List, [], _∷_}
@@ -51,3 +52,7 @@ len-most k h = leb→le (getD lens k 0) 6 (at 23 most-test tt k h)
 
 pub past : (k : ℕ) → 23 ≤ k → word k ≡ []
 past k h = ap ascii (List·getD-eq-default words "" h)
+
+-- a number that is none of those before is past them
+pub beyond : {n k : ℕ} → n ≤ k → (k ≡ n → ⊥) → suc n ≤ k
+beyond h e = omega arith

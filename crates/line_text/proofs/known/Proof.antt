@@ -29,18 +29,20 @@ returns-3 c =
 
 returns-4 : tie.Need-returns-4
 returns-4 c =
-    let e = c .before .before in
+    let e = c .before .before .before in
     let l = e .before .before .args .line in
     let below : l .kind < 23 = omega (arith, e .if2 .left) in
-    let o : own (l .kind) ≡ false = rw (ne-eqb _ _ (c .before .if3 .left), ne-eqb _ _ (c .if4 .taken)) in
+    let fs = c .before .fixed-sort .ensures in
+    let o : own (l .kind) ≡ false = rw (ne-eqb _ _ (c .before .before .if3 .left), ← fs, ne-eqb _ _ (c .if4 .taken)) in
     (λ t. fixed-known l (e .before .if1 .left) below o, λ f. absurd (true≢false f))
 
 returns-5 : tie.Need-returns-5
 returns-5 c =
-    let e = c .before .before .before in
+    let e = c .before .before .before .before in
     let l = e .before .before .args .line in
     let below : l .kind < 23 = omega (arith, e .if2 .left) in
-    let o : own (l .kind) ≡ true = rw (ne-eqb _ _ (c .before .before .if3 .left), eq-eqb _ _ (c .before .if4 .left)) in (
+    let fs = c .before .before .fixed-sort .ensures in
+    let o : own (l .kind) ≡ true = rw (ne-eqb _ _ (c .before .before .before .if3 .left), ← fs, eq-eqb _ _ (c .before .if4 .left)) in (
       λ t. let s = c .is-sort2 .ensures .0 t in sort-known l (e .before .if1 .left) below (s .0) o (s .1),
       λ f. sort-unknown l (e .before .if1 .left) below o (c .is-sort2 .ensures .1 f),
     )
@@ -48,4 +50,4 @@ returns-5 c =
 pub known-spec : {M : Type 1} → statement M
 known-spec =
     tie.close
-    (tie.spec returns returns-2 (λ c κs. search needs) returns-3 (λ c. search needs) (λ c. search needs) returns-4 (λ c κs. search needs) returns-5)
+    (tie.spec returns returns-2 (λ c κs. search needs) returns-3 (λ c κs. search needs) returns-4 (λ c κs. search needs) returns-5)

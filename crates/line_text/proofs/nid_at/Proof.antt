@@ -1,28 +1,25 @@
--- The identifier that the lookup tells. Assumes nothing.
-use mathlib.Core.Path.{sym, ap, _∙_}
+-- The first word of the record, where there is one. Assumes nothing.
+use mathlib.Core.Path.{sym}
 use denote.Ref.{now}
-use Rattle.line_text.proofs.Listed.{nidOf, look-nid}
+use native.Mathlib.Omega.{arith}
+use Rattle.line_text.proofs.Listed.{length-nodes, nid-outside, nid-inside}
 use borrow.Author.Needs.{needs}
 use Rattle.line_text.proofs.nid_at.Statement.{statement}
 use Rattle.line_text.proofs.nid_at.Tie as tie
 
 returns : tie.Need-returns
 returns c =
-    let k = c .before .before .before in
-    let a = k .before .before .args in
-    ap nidOf (sym (c .before .nid .given .1) ∙ k .look .ensures) ∙ look-nid (now (a .list)) (a .lines) (a .place .0)
+    let a = c .before .args in
+    sym (nid-outside (now (a .list)) (a .lines) (a .place .0) (omega (arith, length-nodes (now (a .list)) (a .lines) 0, c .if1 .taken)))
 
 returns-2 : tie.Need-returns-2
 returns-2 c =
-    let k = c .before .before .before in
-    let a = k .before .before .args in
-    ap nidOf (sym (c .before .nid2 .given .1) ∙ k .look .ensures) ∙ look-nid (now (a .list)) (a .lines) (a .place .0)
+    let a = c .before .before .args in
+    sym (nid-outside (now (a .list)) (a .lines) (a .place .0) (omega (arith, length-nodes (now (a .list)) (a .lines) 0, c .if2 .taken)))
 
 returns-3 : tie.Need-returns-3
 returns-3 c =
-    let k = c .before .before in
-    let a = k .before .before .args in
-    ap nidOf (sym (c .enum-told .given .1) ∙ k .look .ensures) ∙ look-nid (now (a .list)) (a .lines) (a .place .0)
+    let a = c .before .before .before .args in nid-inside (now (a .list)) (a .lines) (a .place .0) (c .before .before .if1 .left) (c .before .if2 .left)
 
 pub nid-at-spec : {M : Type 1} → statement M
-nid-at-spec = tie.close (tie.spec (λ c κs. search needs) (λ c. search needs) (λ c. search needs) (λ c. search needs) returns returns-2 returns-3)
+nid-at-spec = tie.close (tie.spec returns returns-2 (λ c. search needs) (λ c. search needs) (λ c. search needs) returns-3)

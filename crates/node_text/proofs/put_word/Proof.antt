@@ -11,12 +11,14 @@ returns : tie.Need-returns
 returns c = put-as (record { list = refl; next = omega arith }) (sym (past (c .before .before .args .k) (c .if1 .taken)))
 
 put-part-requires : tie.Need-put-part-requires
-put-part-requires c κs = omega (arith, c .before .before .word-len .ensures .1, c .before .before .before .before .if1 .left)
+put-part-requires c κs = omega (arith, c .before .before .word-len .ensures .1)
 
-returns-2 : tie.Need-returns-2
-returns-2 c =
+returns-3 : tie.Need-returns-3
+returns-3 c =
     let n = c .before .before .before .before .before in
-    put-as (c .before .before .put-part .ensures) (rw (n .word-len .ensures .0) (entry (n .before .before .before .before .args .k) (omega (arith, n .before .before .if1 .left))))
+    put-as (c .before .before .put-part .ensures) (rw (n .word-len .ensures .0) (entry (n .before .before .before .before .before .args .k) (omega arith)))
 
 pub put-word-spec : {M : Type 1} → statement M
-put-word-spec = tie.close (tie.spec returns (λ c κs. search needs) (λ c. search needs) put-part-requires (λ c. search needs) returns-2)
+put-word-spec =
+    tie.close
+    (tie.spec returns (λ c. search needs) (λ c κs. search needs) (λ c. search needs) (λ c. search needs) (λ c κs. search needs) (λ c. search needs) put-part-requires (λ c. search needs) returns-3)
