@@ -29,10 +29,11 @@ use Rattle.builder_ops.specs.Composed.{newNeq, newSra, newSextBy, newSext32, ch
 use Rattle.models.specs.Kinds.{constant, summed, modelBranch}
 use Rattle.models.specs.Model.{upper, constantOf, regFlowIte, unimplemented, translate}
 use Rattle.riscv.specs.Refusal.{refusal}
-use Rattle.lowering_refusals.specs.Refusal.{roomOf, countsOut, flagOut, roomOut, linesAndEdges, refusalOf}
+use Rattle.lowering_refusals.specs.Refusal.{roomOf, countsOut, flagOut, roomOut, linesAndEdges, refusalGiven}
 use Rattle.start.specs.Start.{startCountsOut, startRefusal}
-use Rattle.lowering.specs.Lowering.{programOf, settled, countsAfter, lowering}
-use Rattle.demand.specs.Calls.{Held, operators, Request, Call, lower, inFront, lentFor, stateFor, answerTo, accepted, step, run}
+use Rattle.lowering.specs.Lowering.{programOf, settled, countsAfter, loweringGiven}
+use Rattle.meaning.specs.Lines.{operators}
+use Rattle.demand.specs.Calls.{Held, Request, Call, lower, inFront, lentFor, stateFor, answerTo, accepted, step, run}
 use Rattle.riscv.specs.Manual.{manual}
 use Rattle.bitvec.specs.TwosComplement.{sext}
 use Rattle.demand.specs.Demand3.{AcceptedStart, registerNodeValue, registerFlowValue, trueCalls, effectOf, InOneWordEach, registersBy, trueOnes, Flows}
@@ -97,12 +98,12 @@ states : Env
 states p = cond (eqb p 6) (number 1) (number 9)
 
 the-true-one : trueOnes states start calls ≡ lui ∷ []
-unfolding start stored start-lines given operators view lineAt opOf walk mapOp carried rolesFit ask lui calls states trueCalls accepted answerTo lentFor inFront stateFor step run lowering refusalOf roomOf countsOut refusal flagOut roomOut linesAndEdges settled programOf countsAfter appendLine constantOf operandsFor flowsIn withFlows translate regFlowIte unimplemented _>>=_ newSra newSext32 newSextBy newNeq checkAdditionOverflow constant summed modelBranch evalOp binary values value Smt.ite bvadd bvsub bvneg bvlshr bvult bvcomp bvand bit upper
+unfolding start stored start-lines given operators view lineAt opOf walk mapOp carried rolesFit ask lui calls states trueCalls accepted answerTo lentFor inFront stateFor step run loweringGiven refusalGiven roomOf countsOut refusal flagOut roomOut linesAndEdges settled programOf countsAfter appendLine constantOf operandsFor flowsIn withFlows translate regFlowIte unimplemented _>>=_ newSra newSext32 newSextBy newNeq checkAdditionOverflow constant summed modelBranch evalOp binary values value Smt.ite bvadd bvsub bvneg bvlshr bvult bvcomp bvand bit upper
 the-true-one = refl
 
 -- 7 lines, 2 of the first Lui, 2 of Bltu and 11 of Add
 counted : run start calls .state .tally .lines ≡ 22
-unfolding start stored start-lines given operators view lineAt opOf walk mapOp carried rolesFit ask lui calls states trueCalls accepted answerTo lentFor inFront stateFor step run lowering refusalOf roomOf countsOut refusal flagOut roomOut linesAndEdges settled programOf countsAfter appendLine constantOf operandsFor flowsIn withFlows translate regFlowIte unimplemented _>>=_ newSra newSext32 newSextBy newNeq checkAdditionOverflow constant summed modelBranch evalOp binary values value Smt.ite bvadd bvsub bvneg bvlshr bvult bvcomp bvand bit upper
+unfolding start stored start-lines given operators view lineAt opOf walk mapOp carried rolesFit ask lui calls states trueCalls accepted answerTo lentFor inFront stateFor step run loweringGiven refusalGiven roomOf countsOut refusal flagOut roomOut linesAndEdges settled programOf countsAfter appendLine constantOf operandsFor flowsIn withFlows translate regFlowIte unimplemented _>>=_ newSra newSext32 newSextBy newNeq checkAdditionOverflow constant summed modelBranch evalOp binary values value Smt.ite bvadd bvsub bvneg bvlshr bvult bvcomp bvand bit upper
 counted = refl
 
 -- by demand 3, and not by computing the lines' values

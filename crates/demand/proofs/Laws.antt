@@ -13,11 +13,11 @@ use Rattle.riscv.specs.declared.Instruction.{Instruction}
 use Rattle.roles.specs.Roles.{role, registerNode, withFlows}
 use Rattle.lowering_refusals.specs.declared.State.{State}
 use Rattle.lowering_refusals.specs.Refusal.{refusalOf}
-use Rattle.lowering.specs.Lowering.{Lent, Answer, roomIn, programOf, settled, lowering}
+use Rattle.lowering.specs.Lowering.{Lent, Answer, roomIn, programOf, settled, loweringGiven, lowering}
 use Rattle.lowering_laws.proofs.OneCall.{when-refused}
 use Rattle.demand.specs.Calls.{Held, Call, lower, lentFor, stateFor, answerTo, step, run}
 use Rattle.demand.specs.Laws.{RefusedLeaves, NodesKept}
-use Rattle.demand.proofs.RoleSets.{outcome-node, flows-there}
+use Rattle.roles_kept.proofs.RoleSets.{outcome-node, flows-there}
 use Rattle.demand.proofs.Step.{number, accepted-is, by-step}
 
 pub refused-leaves : RefusedLeaves
@@ -29,7 +29,7 @@ refused-leaves h c q =
 -- an accepted call sets flows alone
 node-lowering : (l : Lent) (st : State) (i : Instruction) (pc : ℕ) (flag : NodeRef) → refusalOf (l .list) (roomIn l) st i pc (flag .0) ≡ 0
     → (j : ℕ) → j < 39 → role (lowering l st i pc flag .lowered .state .roles) j ≡ role (st .roles) j
-unfolding lowering settled
+unfolding loweringGiven settled
 node-lowering l st i pc flag e j h =
     let r = exec append (at (l .list) (st .tally)) (programOf st i pc flag) in
     rw e (outcome-node (withFlows (st .roles) (r .value .flows)) (i .rd) (r .value .outcome) j h ∙ flows-there (st .roles) (r .value .flows) j (omega arith))

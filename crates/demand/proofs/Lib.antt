@@ -1,6 +1,4 @@
 pub mod Views
-pub mod RoleSets
-pub mod Passed
 pub mod Call
 pub mod CallValues
 pub mod Step

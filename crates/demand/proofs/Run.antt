@@ -15,7 +15,7 @@ use Rattle.meaning.specs.Access.{InOneWord, excluded}
 use Rattle.meaning.proofs.Behind.{inside}
 use Rattle.demand.specs.Calls.{Held, linesIn, Request, Call, lower, accepted, step, run}
 use Rattle.demand.specs.Demand3.{Records, kindOf, NoneExcluded, registerNodeValue, memoryNodeValue, registerFlowValue, memoryFlowValue, isTrue, trueCalls, registerAfter, memoryAfter, effectOf, InOneWordEach}
-use Rattle.demand.proofs.RoleSets.{Fit, fit-node}
+use Rattle.roles_kept.proofs.RoleSets.{Fit, fit-node}
 use Rattle.demand.proofs.Step.{Sound, sound-step, longer, values-step, registers-step, memory-step}
 use Rattle.demand.proofs.Laws.{node-step, register-node-step}
 

@@ -3,7 +3,6 @@ use Prim.Native.Nat.{ℕ, _*_, _^_, _≤_, _<_}
 use mathlib.Core.Path.{_≡_, refl, sym, _∙_, ap, subst}
 use mathlib.Core.Bool.{Bool, true, false, cond, not, _&&_}
 use mathlib.Core.List.{List}
-use native.Mathlib.Decide.{ℕ-discrete}
 use native.Mathlib.Omega.{arith}
 use borrow.Author.Tests.{eq-eqb, eqb-true}
 use lib.Dec.{T, eqb}
@@ -18,16 +17,19 @@ use Rattle.riscv.specs.Memory.{bytesOf}
 use Rattle.roles.specs.Roles.{role, registerNode, registerFlow}
 use Rattle.lowering_refusals.specs.Refusal.{roomOf, refusalOf}
 use Rattle.lowering_refusals.proofs.Within.{within}
-use Rattle.lowering.specs.Lowering.{Answer, roomIn, settled, lowering}
+use Rattle.lowering.specs.Lowering.{roomIn}
 use Rattle.lowering.proofs.Accepted.{counts-in}
-use Rattle.lowering_laws.proofs.OneCall.{when-refused, when-accepted}
+use Rattle.lowering_laws.proofs.OneCall.{when-accepted}
 use Rattle.meaning.specs.Access.{InOneWord, excluded}
+use Rattle.meaning.specs.Lines.{operators}
 use Rattle.meaning.proofs.Behind.{inside}
-use Rattle.demand.specs.Calls.{Held, operators, linesIn, Request, lower, lentFor, stateFor, answerTo, accepted, step}
+use Rattle.roles_kept.proofs.Views.{operators-length, look-is}
+use Rattle.roles_kept.proofs.RoleSets.{Roled}
+use Rattle.roles_kept.proofs.Passed.{flag-in}
+use Rattle.roles_kept.proofs.Call.{refusal-is}
+use Rattle.demand.specs.Calls.{Held, linesIn, Request, lower, lentFor, stateFor, answerTo, accepted, step}
 use Rattle.demand.specs.Demand3.{kindOf, needsItsFlag, isTrue, registerAfter, memoryAfter, effectOf, registerNodeValue, memoryNodeValue, registerFlowValue, memoryFlowValue}
-use Rattle.demand.proofs.Views.{operators-length, front-operators, front-length, look-is}
-use Rattle.demand.proofs.RoleSets.{Roled}
-use Rattle.demand.proofs.Passed.{flag-in}
+use Rattle.demand.proofs.Views.{front-operators, front-length}
 use Rattle.demand.proofs.Call as C
 use Rattle.demand.proofs.Call.{Good}
 use Rattle.demand.proofs.CallValues as W
@@ -39,17 +41,13 @@ module _ (h : Held) (c : Request) where
   abbrev pub number : ℕ
   number = refusalOf (lentFor h c .list) (roomIn (lentFor h c)) (stateFor h c) (c .instruction) (c .address) (c .flag .0)
 
-  refusal-is : answerTo h c .lowered .refusal ≡ number
-  unfolding answerTo lowering settled
-  refusal-is = go (ℕ-discrete number 0)
-    where
-      go : Dec (number ≡ 0) → lowering (lentFor h c) (stateFor h c) (c .instruction) (c .address) (c .flag) .lowered .refusal ≡ number
-      go (yes q) = when-accepted (lentFor h c) (stateFor h c) (c .instruction) (c .address) (c .flag) q .refusal ∙ sym q
-      go (no q) = ap (λ (a : Answer). a .lowered .refusal) (when-refused (lentFor h c) (stateFor h c) (c .instruction) (c .address) (c .flag) q)
+  number-is : answerTo h c .lowered .refusal ≡ number
+  unfolding answerTo
+  number-is = refusal-is (lentFor h c) (stateFor h c) (c .instruction) (c .address) (c .flag)
 
   pub accepted-is : accepted h c ≡ eqb number 0
   unfolding accepted
-  accepted-is = ap (λ n. eqb n 0) refusal-is
+  accepted-is = ap (λ n. eqb n 0) number-is
 
   -- what an accepted call leaves
   abbrev pub taken : Held
@@ -74,7 +72,7 @@ module _ (h : Held) (c : Request) where
       roomy : h .state .tally .lines * stride ≤ length (c .list)
       unfolding lentFor stateFor roomOf
       roomy =
-          let w = within (roomIn (lentFor h c)) (stateFor h c .tally) (stateFor h c .counts) (counts-in (lentFor h c .list) (roomIn (lentFor h c)) (stateFor h c) (c .instruction) (c .address) (c .flag .0) q) in
+          let w = within (roomIn (lentFor h c)) (stateFor h c .tally) (stateFor h c .counts) (counts-in _ (lentFor h c .list) (roomIn (lentFor h c)) (stateFor h c) (c .instruction) (c .address) (c .flag .0) q) in
           omega (arith, w .lines, front-length (take (h .state .tally .lines * stride) (h .list)) (c .list))
 
       -- and they are those that are held

@@ -3,26 +3,22 @@
 -- through a refused call as they were; edge, dispatch and bad lists may change in between."
 use Prim.Native.Nat.{ℕ, _*_}
 use mathlib.Core.Bool.{Bool, cond}
-use mathlib.Core.List.{List, [], _∷_, _++_, map}
+use mathlib.Core.List.{List, [], _∷_, _++_}
 use lib.Dec.{eqb}
 use lib.ListN.{length, take, drop}
 use Rattle.btor2.specs.declared.NodeRef.{NodeRef}
 use Rattle.btor2.specs.Op.{Op}
 use Rattle.btor2_list.specs.Record.{stride}
-use Rattle.btor2_list.specs.View.{view}
 use Rattle.riscv.specs.declared.Instruction.{Instruction}
 use Rattle.lowering_refusals.specs.declared.State.{State}
 use Rattle.lowering.specs.Lowering.{Lent, lent, Answer, lowering}
+use Rattle.meaning.specs.Lines.{operators}
 
 -- what passes on: the words of the list, our name area, and the state, which has the counts and the roles
 pub record Held : Type 0 where
   pub list : List ℕ
   pub names : List ℕ
   pub state : State
-
--- the lines that words stand for, without their identifiers
-unfoldable pub operators : List ℕ → ℕ → List (Op ℕ)
-operators words n = map (λ line. line .op) (view words n)
 
 -- the lines of the list
 abbrev pub linesIn : Held → List (Op ℕ)

@@ -11,7 +11,7 @@ use Rattle.riscv.specs.declared.Instruction.{Instruction}
 use Rattle.lowering_refusals.specs.declared.State.{State}
 use Rattle.lowering_refusals.specs.Refusal.{refusalOf}
 use Rattle.lowering.specs.declared.Lowered.{Lowered}
-use Rattle.lowering.specs.Lowering.{Lent, Answer, answer, roomIn, programOf, settled, refused, lowering}
+use Rattle.lowering.specs.Lowering.{Lent, Answer, answer, roomIn, programOf, settled, refused, loweringGiven, lowering}
 use Rattle.program.specs.Prog.{exec}
 use Rattle.builder.specs.Append.{at, append}
 use Rattle.host.specs.Host.{given, givenBy, stateIn, withState, hostLowering}
@@ -31,7 +31,7 @@ kept-by false a n l st z h = refl
 -- a refused call leaves the state as it was
 refused-kept : (l : Lent) (st : State) (i : Instruction) (pc : ℕ) (flag : NodeRef) → (lowering l st i pc flag .lowered .refusal ≡ 0 → ⊥)
     → lowering l st i pc flag .lowered .state ≡ st
-unfolding lowering settled
+unfolding loweringGiven settled
 refused-kept l st i pc flag =
     kept-by (eqb (refusalOf (l .list) (roomIn l) st i pc (flag .0)) 0) (settled l st i pc (exec append (at (l .list) (st .tally)) (programOf st i pc flag)))
     (refusalOf (l .list) (roomIn l) st i pc (flag .0)) l st refl

@@ -24,7 +24,7 @@ use Rattle.lowering_refusals.specs.Refusal.{roomOf}
 use Rattle.lowering_laws.specs.Lines.{numbered}
 use Rattle.start.specs.Start.{startCountsOut, startRefusal}
 use Rattle.listing_start.specs.Start.{names, joined, hostArea, named, states, startOps, records, startWords, startIn, fromOn, startRoles, startState}
-use Rattle.demand.specs.Calls.{operators}
+use Rattle.meaning.specs.Lines.{operators}
 use Rattle.demand.specs.Demand3.{registerNodeValue}
 use Rattle.demand.proofs.Demand3.{demand-3}
 use Rattle.listing_laws.specs.Accepted.{StartLines, StartAccepted, listingStart, StartZero, StartMeans}

@@ -16,11 +16,15 @@ use Rattle.lowering_refusals.specs.declared.Counts.{Counts}
 use Rattle.lowering_refusals.specs.declared.Room.{Room}
 use Rattle.lowering_refusals.specs.declared.State.{State}
 use Rattle.lowering_refusals.specs.Bounds.{Within}
-use Rattle.lowering_refusals.specs.Refusal.{roomOf, countsOut, needsOf, roomOut, flagOut, refusalOf}
-use Rattle.roles.specs.Roles.{rolesFit}
+use Rattle.lowering_refusals.specs.Refusal.{roomOf, countsOut, needsOf, roomOut, flagOut, refusalGiven}
 use Rattle.lowering_refusals.proofs.Tests.{from8, from7, fromRecord, from13}
 use Rattle.lowering_refusals.proofs.Within.{neither, within}
 use Rattle.lowering.specs.Sums.{Added, Sums}
+
+-- the roles fit where the check says that none is out
+pub flipped : (a b : Bool) → a ≡ not b → b ≡ not a
+flipped a true e = rw e
+flipped a false e = rw e
 
 -- no test held
 passes : (t : Bool) (n : ℕ) (ts : Tests) → (n ≡ 0 → ⊥) → first ((t, n) ∷ ts) ≡ 0 → (t ≡ false) × (first ts ≡ 0)
@@ -35,19 +39,19 @@ record-passes n ts e = go (eqb n 0) refl e
     go true f e = e
     go false f e = absurd (let z : _≡_ {A = Bool} (eqb n 0) (eqb 0 0) = (λ i. eqb (e i) 0) in let y : true ≡ false = sym z ∙ f in let x : _≡_ {A = ℕ} 0 1 = cc in omega arith)
 
-module _ (ws : List ℕ) (room : Room) (st : State) (i : Instruction) (pc flag : ℕ) (e : refusalOf ws room st i pc flag ≡ 0) where
+module _ (fits : Bool) (ws : List ℕ) (room : Room) (st : State) (i : Instruction) (pc flag : ℕ) (e : refusalGiven fits ws room st i pc flag ≡ 0) where
   abbrev needs : Room
   needs = needsOf (kindAt (i .kind)) (class (kindAt (i .kind))) (eqb (i .imm) 0) (eqb (i .rd) 0) (eqb (i .rs1) 0) pc
 
   pub counts-in : countsOut room (st .tally) (st .counts) ≡ false
-  unfolding refusalOf
-  counts-in = passes (countsOut room (st .tally) (st .counts)) 9 (from13 ws room st i pc flag) (λ z. omega arith) e .0
+  unfolding refusalGiven
+  counts-in = passes (countsOut room (st .tally) (st .counts)) 9 (from13 ws room st i pc flag fits) (λ z. omega arith) e .0
 
   room-in : roomOut room (st .tally) (st .counts) needs ≡ false
-  unfolding refusalOf
+  unfolding refusalGiven
   room-in =
-      let p13 = passes (countsOut room (st .tally) (st .counts)) 9 (from13 ws room st i pc flag) (λ z. omega arith) e .1 in
-      let pr = passes (not (rolesFit ws (st .tally .lines) 0 (st .roles))) 13 (fromRecord ws room st i pc flag) (λ z. omega arith) p13 .1 in
+      let p13 = passes (countsOut room (st .tally) (st .counts)) 9 (from13 ws room st i pc flag fits) (λ z. omega arith) e .1 in
+      let pr = passes (not fits) 13 (fromRecord ws room st i pc flag) (λ z. omega arith) p13 .1 in
       let p7 = record-passes (refusal i) (from7 ws room st i pc flag) pr in
       let p8 = passes (flagOut ws (st .tally .lines) (class (kindAt (i .kind))) (eqb (i .rd) 0) (eqb (i .rs1) 0) flag) 7 (from8 ws room st i pc flag) (λ z. omega arith) p7 .1 in
       passes (roomOut room (st .tally) (st .counts) needs) 8 [] (λ z. omega arith) p8 .0

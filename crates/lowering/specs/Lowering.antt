@@ -22,13 +22,13 @@ use Rattle.models.specs.Model.{translate, constantOf}
 use Rattle.models.specs.Code.{operandsOf, flowsOf}
 use Rattle.riscv.specs.declared.Instruction.{Instruction}
 use Rattle.riscv.specs.Kind.{kindAt}
-use Rattle.roles.specs.Roles.{role, registerFlow, operandsFor, flowsIn, withFlows, withOutcome}
+use Rattle.roles.specs.Roles.{role, registerFlow, operandsFor, flowsIn, withFlows, withOutcome, rolesFit}
 use Rattle.text.specs.BadName.{badName}
 use Rattle.lowering_refusals.specs.declared.Counts.{Counts}
 use Rattle.lowering_refusals.specs.declared.Room.{Room}
 use Rattle.lowering_refusals.specs.declared.State.{State}
 use Rattle.lowering.specs.declared.Lowered.{Lowered}
-use Rattle.lowering_refusals.specs.Refusal.{roomOf, needsOf, refusalOf}
+use Rattle.lowering_refusals.specs.Refusal.{roomOf, needsOf, refusalGiven}
 
 -- what the host lends
 pub record Lent : Type 0 where
@@ -121,8 +121,12 @@ roomIn l = roomOf (length (l .list)) (length (l .names)) (length (l .edges)) (le
 abbrev pub refused : ℕ → Lent → State → Answer
 refused n l st = record { lowered = record { refusal = n; state = st }; lent = l }
 
--- one call: the instruction i at the address pc under a flag
-unfoldable pub lowering : Lent → State → Instruction → ℕ → NodeRef → Answer
-lowering l st i pc flag =
-    let n = refusalOf (l .list) (roomIn l) st i pc (flag .0) in
+-- one call: the instruction i at the address pc under a flag; whether the roles fit is given
+unfoldable pub loweringGiven : Bool → Lent → State → Instruction → ℕ → NodeRef → Answer
+loweringGiven fits l st i pc flag =
+    let n = refusalGiven fits (l .list) (roomIn l) st i pc (flag .0) in
     cond (eqb n 0) (settled l st i pc (exec append (at (l .list) (st .tally)) (programOf st i pc flag))) (refused n l st)
+
+-- and is tested
+abbrev pub lowering : Lent → State → Instruction → ℕ → NodeRef → Answer
+lowering l st i pc flag = loweringGiven (rolesFit (l .list) (st .tally .lines) 0 (st .roles)) l st i pc flag

@@ -7,7 +7,7 @@ use lowering_refusals::Counts;
 use lowering_refusals::Room;
 use lowering_refusals::State;
 use lowering_refusals::needs_of;
-use lowering_refusals::refuse;
+use lowering_refusals::refuse_given;
 use lowering_refusals::room_of;
 use models::Modeled;
 use riscv::Instruction;
@@ -21,7 +21,7 @@ ghost use Rattle.instruction_class.specs.declared.Class.the-variants.{Indirect}
 ghost use Rattle.models.specs.Code.{flowsOf, outcomeOf, modeledOf};
 ghost use Rattle.program.specs.Prog.{exec};
 ghost use Rattle.roles.specs.Roles.{withFlows, withOutcome};
-ghost use Rattle.lowering.specs.Lowering.{lent, answer, nameFor, programOf, aside, indirectAside, asideAfter, countsAfter, settled, lowering};
+ghost use Rattle.lowering.specs.Lowering.{lent, answer, nameFor, programOf, aside, indirectAside, asideAfter, countsAfter, settled, loweringGiven, lowering};
 ghost use Rattle.lowering.specs.Sums.{Added, Sums};
 
 // What a call gives: its refusal, 0 where there is none, and the state after it.
@@ -45,6 +45,38 @@ pub fn lower(
 ) -> Lowered
     ensures { λ r. ⌜ answer r (lent (now (list .exit)) (now (names .exit)) (now (edges .exit)) (now (dispatches .exit)) (now (bads .exit))) ≡ lowering (lent (now (list .entry)) (now (names .entry)) (now (edges .entry)) (now (dispatches .entry)) (now (bads .entry))) state i address flag ⌝ }
 {
+    let t = state.tally;
+    let places = state.roles;
+    let out = roles::roles_out(list, t.lines, places);
+    lower_given(
+        list,
+        names,
+        edges,
+        dispatches,
+        bads,
+        state,
+        i,
+        address,
+        flag,
+        !out,
+    )
+}
+
+// The same where it is given whether the roles fit: for a host that lowers call after call, since an accepted call's roles fit again.
+pub fn lower_given(
+    list: &mut [u64],
+    names: &mut [u8],
+    edges: &mut [u64],
+    dispatches: &mut [u64],
+    bads: &mut [u64],
+    state: State,
+    i: Instruction,
+    address: u64,
+    flag: NodeRef,
+    fits: bool,
+) -> Lowered
+    ensures { λ r. ⌜ answer r (lent (now (list .exit)) (now (names .exit)) (now (edges .exit)) (now (dispatches .exit)) (now (bads .exit))) ≡ loweringGiven fits (lent (now (list .entry)) (now (names .entry)) (now (edges .entry)) (now (dispatches .entry)) (now (bads .entry))) state i address flag ⌝ }
+{
     let room = room_of(
         list.len(),
         names.len(),
@@ -52,7 +84,7 @@ pub fn lower(
         dispatches.len(),
         bads.len(),
     );
-    let refusal = refuse(list, room, state, i, address, flag);
+    let refusal = refuse_given(list, room, state, i, address, flag, fits);
     if refusal != 0 {
         return Lowered { refusal, state };
     }

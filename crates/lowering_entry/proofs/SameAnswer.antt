@@ -22,9 +22,9 @@ use Rattle.riscv.specs.declared.Instruction.{Instruction}
 use Rattle.riscv.specs.Kind.{kindAt}
 use Rattle.lowering_refusals.specs.declared.Room.{Room}
 use Rattle.lowering_refusals.specs.declared.State.{State}
-use Rattle.lowering_refusals.specs.Refusal.{roomOf, countsOut, needsOf, roomOut, refusalOf}
+use Rattle.lowering_refusals.specs.Refusal.{roomOf, countsOut, needsOf, roomOut, refusalGiven, refusalOf}
 use Rattle.lowering.specs.Lowering as L
-use Rattle.lowering.specs.Lowering.{Lent, lent, Answer, answer, programOf, settled, countsAfter, roomIn, refused, lowering}
+use Rattle.lowering.specs.Lowering.{Lent, lent, Answer, answer, programOf, settled, countsAfter, roomIn, refused, loweringGiven, lowering}
 use Rattle.lowering.proofs.Accepted as A
 use Rattle.lowering_laws.proofs.Elsewhere.{needs-edges}
 use Rattle.lowering_entry.specs.declared.InEdge.{InEdge}
@@ -135,7 +135,7 @@ module _ (l n d b : List ℕ) (es : List InEdge) (st : State) (i : Instruction) 
   number = refusalOf l (roomIn own) (withEdges st u) i pc (flag .0)
 
   same-refusal : refusalOf l (roomIn theirs) st i pc (flag .0) ≡ number
-  unfolding number refusalOf countsOut roomOut roomOf
+  unfolding number refusalGiven countsOut roomOut roomOf
   same-refusal =
       let nine : ltb 2 u ≡ ltb (length es) (st .counts .edges) = rw (add-zero u, add-zero (st .counts .edges)) at (test 0 (omega arith)) in
       let eight : ltb 2 (u + needs .edges) ≡ ltb (length es) (st .counts .edges + needs .edges) = test (needs .edges) (rw edges-are (at-most c)) in
@@ -156,7 +156,7 @@ module _ (l n d b : List ℕ) (es : List InEdge) (st : State) (i : Instruction) 
     settled-whole : number ≡ 0 → Whole (settled own (withEdges st u) i pc run) (settled theirs st i pc run)
     unfolding settled countsAfter number roomOf
     settled-whole accepted =
-        let small : u + needs .edges ≤ 2 = A.roomy l (roomIn own) (withEdges st u) i pc (flag .0) accepted .edges in
+        let small : u + needs .edges ≤ 2 = A.roomy _ l (roomIn own) (withEdges st u) i pc (flag .0) accepted .edges in
         let small′ : u + edgeCount c ≤ 2 = rw edges-are at small in
         let fits : st .counts .edges + edgeCount c ≤ length es = ltb-false _ _ (sym (test (edgeCount c) (at-most c)) ∙ le-ltb 2 (u + edgeCount c) small′) in
         let added : (u + needs .edges) - u ≡ edgeCount c = omega (arith, edges-are) in (
@@ -173,7 +173,7 @@ module _ (l n d b : List ℕ) (es : List InEdge) (st : State) (i : Instruction) 
     either false e = refused-whole number
 
   whole : Whole (lowering own (withEdges st u) i pc flag) (lowering theirs st i pc flag)
-  unfolding lowering programOf number
+  unfolding loweringGiven programOf number
   whole = rw same-refusal (either (exec append (at l (st .tally)) (programOf st i pc flag)) (eqb number 0) refl)
 
   pub same-answer : (a : Answer) → a ≡ lowering own (withEdges st u) i pc flag → Whole a (lowering theirs st i pc flag)

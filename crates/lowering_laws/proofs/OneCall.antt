@@ -18,7 +18,7 @@ use Rattle.riscv.specs.Kind.{kindAt}
 use Rattle.lowering_refusals.specs.declared.State.{State}
 use Rattle.lowering_refusals.specs.Refusal.{roomOf, countsOut, refusalOf}
 use Rattle.lowering_refusals.proofs.Within.{neither}
-use Rattle.lowering.specs.Lowering.{Lent, Answer, aside, programOf, settled, roomIn, refused, lowering}
+use Rattle.lowering.specs.Lowering.{Lent, Answer, aside, programOf, settled, roomIn, refused, loweringGiven, lowering}
 use Rattle.lowering.proofs.Accepted as A
 use Rattle.lowering_laws.specs.Lines.{linesOf, behind}
 use Rattle.lowering_laws.specs.Accepted.{growth, Accepted}
@@ -32,7 +32,7 @@ module _ (l : Lent) (st : State) (i : Instruction) (pc : ℕ) (flag : NodeRef) w
   number = refusalOf (l .list) (roomIn l) st i pc (flag .0)
 
   pub when-refused : (number ≡ 0 → ⊥) → lowering l st i pc flag ≡ refused number l st
-  unfolding lowering
+  unfolding loweringGiven
   when-refused h = rw (ne-eqb number 0 h)
 
   grown : (at : ℕ → ℕ) → length (linesOf at 0 (programOf st i pc flag)) ≡ growth i
@@ -43,13 +43,13 @@ module _ (l : Lent) (st : State) (i : Instruction) (pc : ℕ) (flag : NodeRef) w
     nid-in : st .tally .nid ≤ 2 ^ 31 + 2097152
     unfolding countsOut
     nid-in =
-        let p = neither (ltb 1048576 (st .tally .lines)) _ (A.counts-in (l .list) (roomIn l) st i pc (flag .0) e) in
+        let p = neither (ltb 1048576 (st .tally .lines)) _ (A.counts-in _ (l .list) (roomIn l) st i pc (flag .0) e) in
         ltb-false _ _ (neither (ltb (2 ^ 31 + 2097152) (st .tally .nid)) _ (p .1) .0)
 
     room : Room (l .list) (st .tally) (growth i)
     unfolding roomOf
     room = record {
-      lines = rw (needs-lines (kindAt (i .kind)) (eqb (i .imm) 0) (eqb (i .rd) 0) pc (class (kindAt (i .kind))) (eqb (i .rs1) 0)) at (A.roomy (l .list) (roomIn l) st i pc (flag .0) e .lines);
+      lines = rw (needs-lines (kindAt (i .kind)) (eqb (i .imm) 0) (eqb (i .rd) 0) pc (class (kindAt (i .kind))) (eqb (i .rs1) 0)) at (A.roomy _ (l .list) (roomIn l) st i pc (flag .0) e .lines);
       nids = omega (arith, nid-in, at-most (kindAt (i .kind)) (eqb (i .imm) 0) (eqb (i .rd) 0) (eqb (i .rs1) 0));
     }
 
@@ -62,7 +62,7 @@ module _ (l : Lent) (st : State) (i : Instruction) (pc : ℕ) (flag : NodeRef) w
         (laid (programOf st i pc flag) (st .tally .lines) 0 (l .list) (st .tally) (sym (add-zero _)) (rw (grown behind-them) room))
 
     pub when-accepted : Accepted l st i pc flag (lowering l st i pc flag)
-    unfolding lowering settled
+    unfolding loweringGiven settled
     when-accepted = rw e (record {
       refusal = refl;
       nodes = run .nodes;

@@ -1,6 +1,6 @@
 -- The tests of a lowering from each one on, in the definition's order. Assumes nothing.
 use Prim.Native.Nat.{ℕ}
-use mathlib.Core.Bool.{not}
+use mathlib.Core.Bool.{Bool, not}
 use mathlib.Core.List.{List, [], _∷_}
 use lib.Dec.{eqb}
 use Rattle.instruction_class.specs.declared.Class.{Class}
@@ -9,7 +9,6 @@ use Rattle.riscv.specs.declared.Instruction.{Instruction}
 use Rattle.riscv.specs.Kind.{kindAt}
 use Rattle.riscv.specs.Refusal.{refusal}
 use Rattle.riscv.proofs.First.{Tests}
-use Rattle.roles.specs.Roles.{rolesFit}
 use Rattle.lowering_refusals.specs.declared.Room.{Room}
 use Rattle.lowering_refusals.specs.declared.State.{State}
 use Rattle.lowering_refusals.specs.Refusal.{needsOf, roomOut, flagOut}
@@ -27,5 +26,5 @@ module _ (ws : List ℕ) (room : Room) (st : State) (i : Instruction) (pc flag :
   abbrev pub fromRecord : Tests
   fromRecord = (not (eqb (refusal i) 0), refusal i) ∷ from7
 
-  abbrev pub from13 : Tests
-  from13 = (not (rolesFit ws (st .tally .lines) 0 (st .roles)), 13) ∷ fromRecord
+  abbrev pub from13 : Bool → Tests
+  from13 fits = (not fits, 13) ∷ fromRecord

@@ -56,17 +56,21 @@ roomOut room t c n =
 unfoldable pub flagOut : List ℕ → ℕ → Class → Bool → Bool → ℕ → Bool
 flagOut ws lines c d s flag = needsFlag c d s && not (eqb (valueNumber (lookAt ws lines flag)) 1)
 
--- the first that applies, or 0; the record's own refusals are 1 to 6
-unfoldable pub refusalOf : List ℕ → Room → State → Instruction → ℕ → ℕ → ℕ
-refusalOf ws room st i pc flag =
+-- the first that applies, or 0; the record's own refusals are 1 to 6. Whether the roles fit is given.
+unfoldable pub refusalGiven : Bool → List ℕ → Room → State → Instruction → ℕ → ℕ → ℕ
+refusalGiven fits ws room st i pc flag =
     let k = kindAt (i .kind) in
     let z = eqb (i .imm) 0 in
     let d = eqb (i .rd) 0 in
     let s = eqb (i .rs1) 0 in
     first
     ((countsOut room (st .tally) (st .counts), 9)
-    ∷ (not (rolesFit ws (st .tally .lines) 0 (st .roles)), 13)
+    ∷ (not fits, 13)
     ∷ (not (eqb (refusal i) 0), refusal i)
     ∷ (flagOut ws (st .tally .lines) (class k) d s flag, 7)
     ∷ (roomOut room (st .tally) (st .counts) (needsOf k (class k) z d s pc), 8)
     ∷ [])
+
+-- 13: "a role is outside the list, not a value line, or of the wrong sort"
+abbrev pub refusalOf : List ℕ → Room → State → Instruction → ℕ → ℕ → ℕ
+refusalOf ws room st i pc flag = refusalGiven (rolesFit ws (st .tally .lines) 0 (st .roles)) ws room st i pc flag

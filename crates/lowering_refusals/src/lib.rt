@@ -6,7 +6,7 @@ use riscv::Instruction;
 ghost use mathlib.Core.Path.{_≡_};
 ghost use Prim.Native.Nat.{_≤_};
 ghost use Rattle.riscv.specs.Kind.{kindAt};
-ghost use Rattle.lowering_refusals.specs.Refusal.{roomOf, countsOut, linesAndEdges, indirectNeeds, needsOf, roomOut, flagOut, refusalOf};
+ghost use Rattle.lowering_refusals.specs.Refusal.{roomOf, countsOut, linesAndEdges, indirectNeeds, needsOf, roomOut, flagOut, refusalGiven};
 ghost use Rattle.lowering_refusals.specs.Bounds.{Small, Within};
 
 // The most lines that a list holds, and the largest next identifier at a lowering.
@@ -164,24 +164,24 @@ fn flag_out(list: &[u64], lines: usize, class: Class, d: bool, s: bool, flag: No
     false
 }
 
-// The first of 9, 13, 1 to 6, 7 and 8 that applies, or 0.
-pub fn refuse(
+// The first of 9, 13, 1 to 6, 7 and 8 that applies, or 0. `fits` is whether the roles fit, which most calls know from the call before.
+pub fn refuse_given(
     list: &[u64],
     room: Room,
     state: State,
     i: Instruction,
     address: u64,
     flag: NodeRef,
+    fits: bool,
 ) -> u64
-    ensures { λ r. ⌜ r ≡ refusalOf (now (list .entry)) room state i address (flag .0) ⌝ }
+    ensures { λ r. ⌜ r ≡ refusalGiven fits (now (list .entry)) room state i address (flag .0) ⌝ }
 {
     let t = state.tally;
     let c = state.counts;
     if counts_out(room, t, c) {
         return 9;
     }
-    let places = state.roles;
-    if roles::roles_out(list, t.lines, places) {
+    if !fits {
         return 13;
     }
     let number = riscv::check(i);

@@ -1,4 +1,4 @@
--- Each kind but Mul and Mulw: its lines meet the sort rule where the roles have their sorts and the flag is a Bit, and what it gives has its
+-- Each kind but Mul and Mulw: its lines meet the sort rule where the roles have their sorts and the flag is a Bit. What any kind gives has its
 -- sort. A kind that needs no flag names none. Assumes nothing.
 use Prim.Native.Nat.{ℕ, _^_, _<_}
 use mathlib.Core.Path.{_≡_, refl}
@@ -13,11 +13,11 @@ use Rattle.riscv.specs.Kind.{Kind, Lui, Auipc, Lb, Lh, Lw, Ld, Lbu, Lhu, Sb, Sh
 use Rattle.models.specs.Places.{Operands, Flows}
 use Rattle.lowering_laws.proofs.EachKind.{reading}
 use Rattle.lowering_laws.proofs.Template.{Role, template}
-use Rattle.meaning.proofs.Roles.{fine}
+use Rattle.meaning.proofs.Roles.{ruled, marked}
 
 module _ (n : ℕ) (st rt : Role → Bool) (imm : ℕ) (h : imm < 2 ^ 64) (name : Name) where
-  pub kind-sorts : (k : Kind) (z d s : Bool) → T (not (oneOf k (Mul ∷ Mulw ∷ []))) → T (fine n st rt (needsFlag (class k) d s) (template imm name k z d s))
-  unfolding template fine allRight
+  pub kind-sorts : (k : Kind) (z d s : Bool) → T (not (oneOf k (Mul ∷ Mulw ∷ []))) → T (ruled n st rt (template imm name k z d s))
+  unfolding template ruled allRight
   kind-sorts Lui z d s v = rw (lt-ltb imm (2 ^ 64) h) tt
   kind-sorts Auipc z d s v = rw (lt-ltb imm (2 ^ 64) h) tt
   kind-sorts Lb true d s v = tt
@@ -85,6 +85,78 @@ module _ (n : ℕ) (st rt : Role → Bool) (imm : ℕ) (h : imm < 2 ^ 64) (name 
   kind-sorts Jalr z false true v = rw (lt-ltb imm (2 ^ 64) h) tt
   kind-sorts Jalr z false false v = rw (lt-ltb imm (2 ^ 64) h) tt
   kind-sorts Ecall z d s v = tt
+
+-- what every kind gives has its sort, whatever its constant
+module _ (n : ℕ) (st rt : Role → Bool) (imm : ℕ) (name : Name) where
+  pub kind-marks : (k : Kind) (z d s : Bool) → T (marked n st rt (needsFlag (class k) d s) (template imm name k z d s))
+  unfolding template marked
+  kind-marks Lui z d s = tt
+  kind-marks Auipc z d s = tt
+  kind-marks Lb true d s = tt
+  kind-marks Lb false d s = tt
+  kind-marks Lh true d s = tt
+  kind-marks Lh false d s = tt
+  kind-marks Lw true d s = tt
+  kind-marks Lw false d s = tt
+  kind-marks Ld true d s = tt
+  kind-marks Ld false d s = tt
+  kind-marks Lbu true d s = tt
+  kind-marks Lbu false d s = tt
+  kind-marks Lhu true d s = tt
+  kind-marks Lhu false d s = tt
+  kind-marks Sb true d s = tt
+  kind-marks Sb false d s = tt
+  kind-marks Sh true d s = tt
+  kind-marks Sh false d s = tt
+  kind-marks Sw true d s = tt
+  kind-marks Sw false d s = tt
+  kind-marks Sd true d s = tt
+  kind-marks Sd false d s = tt
+  kind-marks Addi z true s = tt
+  kind-marks Addi true false s = tt
+  kind-marks Addi false false true = tt
+  kind-marks Addi false false false = tt
+  kind-marks Sltiu z d s = tt
+  kind-marks Xori z d s = tt
+  kind-marks Ori z d s = tt
+  kind-marks Andi z d s = tt
+  kind-marks Slli z d s = tt
+  kind-marks Srli z d s = tt
+  kind-marks Srai z d s = tt
+  kind-marks Addiw z d s = tt
+  kind-marks Slliw z d s = tt
+  kind-marks Srliw z d s = tt
+  kind-marks Sraiw z d s = tt
+  kind-marks Add z d s = tt
+  kind-marks Sub z d s = tt
+  kind-marks Sll z d s = tt
+  kind-marks Sltu z d s = tt
+  kind-marks Srl z d s = tt
+  kind-marks Sra z d s = tt
+  kind-marks Or z d s = tt
+  kind-marks And z d s = tt
+  kind-marks Mul z d s = tt
+  kind-marks Div z d s = tt
+  kind-marks Divu z d s = tt
+  kind-marks Remu z d s = tt
+  kind-marks Addw z d s = tt
+  kind-marks Divw z d s = tt
+  kind-marks Subw z d s = tt
+  kind-marks Sllw z d s = tt
+  kind-marks Mulw z d s = tt
+  kind-marks Beq z d s = tt
+  kind-marks Bne z d s = tt
+  kind-marks Blt z d s = tt
+  kind-marks Bge z d s = tt
+  kind-marks Bltu z d s = tt
+  kind-marks Bgeu z d s = tt
+  kind-marks Jal z true s = tt
+  kind-marks Jal z false s = tt
+  kind-marks Jalr z true true = tt
+  kind-marks Jalr z true false = tt
+  kind-marks Jalr z false true = tt
+  kind-marks Jalr z false false = tt
+  kind-marks Ecall z d s = tt
 
 abbrev pub withFlag : {A : Type 0} → A → Operands A → Operands A
 withFlag x e = record { flag = x; rs1 = e .rs1; rs2 = e .rs2; zero = e .zero; one = e .one; trueBit = e .trueBit; memory = e .memory; counter = e .counter; maximum = e .maximum }

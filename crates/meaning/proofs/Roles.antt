@@ -1,4 +1,4 @@
--- The sorts of what an instruction's lines refer to, and what is asked of a template: one computed test. Assumes nothing.
+-- The sorts of what an instruction's lines refer to, and what is asked of a template: two computed tests. Assumes nothing.
 use Prim.Native.Nat.{ℕ}
 use mathlib.Core.Bool.{Bool, true, false, _&&_, _||_}
 use mathlib.Core.List.{List, []}
@@ -67,9 +67,13 @@ module _ (n : ℕ) (st rt : Role → Bool) where
       has Memory own (f .counter) && (has Word own (f .maximum) && (has Word own (f .division) && (has Word own (f .remainder)
       && (has Word own (f .access) && (has Bit own (f .addition) && (has Bit own (f .multiplication) && has Bit own (f .ecall)))))))
 
-  -- the lines meet the sort rule; outcome and flows have their sorts; without a flag no flow of a register or of memory is written
-  unfoldable pub fine : Bool → Reading Ref → Bool
+  -- the lines meet the sort rule
+  unfoldable pub ruled : Reading Ref → Bool
   unfolding sorts sortAt
-  fine needed t =
-      allRight (sorts (t .lines))
-      && (outcomeHas (sorts (t .lines)) (t .gives .outcome) && (flowsHave (sorts (t .lines)) (t .gives .flows) && (quiet (t .gives .outcome) || needed)))
+  ruled t = allRight (sorts (t .lines))
+
+  -- outcome and flows have their sorts, whether or not the lines meet the rule; without a flag no flow of a register or of memory is written
+  unfoldable pub marked : Bool → Reading Ref → Bool
+  unfolding sorts sortAt
+  marked needed t =
+      outcomeHas (sorts (t .lines)) (t .gives .outcome) && (flowsHave (sorts (t .lines)) (t .gives .flows) && (quiet (t .gives .outcome) || needed))

@@ -1,43 +1,19 @@
--- Refused, all is as it was; else what an accepted call gives. Assumes nothing.
-use mathlib.Core.Path.{sym, _∙_}
-use denote.Ref.{now}
-use lib.ListN.{length}
+-- The test of the roles, and a call that is given its answer. Assumes nothing.
 use borrow.Author.Needs.{needs}
-use borrow.Author.Tests.{eq-eqb, ne-eqb}
-use Rattle.lowering.specs.Lowering.{lowering}
-use Rattle.lowering.proofs.Accepted.{sums-of}
+use denote.Ref.{now}
+use Rattle.roles.specs.Roles.{rolesFit}
+use Rattle.lowering.proofs.Accepted.{flipped}
 use Rattle.lowering.proofs.lower.Statement.{statement}
 use Rattle.lowering.proofs.lower.Tie as tie
 
 returns : tie.Need-returns
-unfolding lowering
 returns c =
-    let r = c .before in
-    let room = r .before .before in
-    rw (← room .room-of .ensures, ← r .refuse .ensures, ne-eqb _ 0 (c .if1 .taken))
-
-accept-requires : tie.Need-accept-requires
-accept-requires c κs =
-    let e = c .before .before .before .before .before in
-    let r = e .before in
-    let room = r .before .before in
-    let given = room .before .before .before .before .before .before in
-    let a = given .args in
-    let good = given .good .1 in
-    sums-of _ (room .room-of .result) _ _ _ _ (sym (r .refuse .ensures) ∙ e .if1 .left)
-    (length (now (a .list))) (length (now (a .names))) (length (now (a .edges))) (length (now (a .dispatches))) (length (now (a .bads)))
-    (room .room-of .ensures) (good .0 .0) (good .1 .0 .0) (good .1 .1 .0 .0) (good .1 .1 .1 .0 .0)
-
-returns-2 : tie.Need-returns-2
-unfolding lowering
-returns-2 c =
-    let a = c .before .before .before .before .before .before .before .before .before .before in
-    let e = a .before .before .before .before .before .before in
-    let r = e .before in
-    let room = r .before .before in
-    rw (← room .room-of .ensures, ← r .refuse .ensures, eq-eqb _ 0 (e .if1 .left)) (a .accept .ensures)
+    let call = c .before .before .before .before .before .before .before .before .before .before in
+    let test = call .before .before .before .before .before .before in
+    let a = test .before .before .before .before .before .before .before .before .before .args in
+    rw (flipped (test .roles-out .result) (rolesFit (now (a .list)) (a .state .tally .lines) 0 (a .state .roles)) (test .roles-out .ensures)) (call .lower-given .ensures)
 
 pub lower-spec : {M : Type 1} → statement M
 lower-spec =
     tie.close
-    (tie.spec (λ c κs. search needs) (λ c κs. search needs) (λ c. search needs) returns accept-requires (λ c. search needs) (λ c. search needs) (λ c. search needs) (λ c. search needs) (λ c. search needs) returns-2)
+    (tie.spec (λ c κs. search needs) (λ c κs. search needs) (λ c. search needs) (λ c. search needs) (λ c. search needs) (λ c. search needs) (λ c. search needs) returns)

@@ -9,7 +9,7 @@ use mathlib.Core.List.{List, [], _∷_}
 use lib.Dec.{T, eqb, ltb, eqb→eq}
 use lib.ListN.{length, set, length-set}
 use lib.Seq.{getD-set-same, getD-set-other}
-use borrow.Author.Tests.{lt-ltb, le-ltb, ltb-false, eqb-false, ne-eqb}
+use borrow.Author.Tests.{lt-ltb, le-ltb, ltb-false, eqb-false, eq-eqb, ne-eqb}
 use Rattle.btor2.specs.declared.NodeRef.{NodeRef}
 use Rattle.btor2.specs.declared.NodeType.the-variants.{Bit, Word, Memory}
 use Rattle.btor2.specs.Sort.{sortNumber}
@@ -20,8 +20,8 @@ use Rattle.btor2_list.specs.Record.{stride}
 use Rattle.btor2_list.specs.Look.{lookAt}
 use Rattle.models.specs.Places as P
 use Rattle.roles.specs.Roles.{valueNumber, roleSort, rolesFit, role, registerNode, registerFlow, ref, withFlows, withRegister, withOutcome}
-use Rattle.demand.specs.Calls.{operators}
-use Rattle.demand.proofs.Views.{look-is}
+use Rattle.meaning.specs.Lines.{operators}
+use Rattle.roles_kept.proofs.Views.{look-is, is-look}
 
 unfoldable pub Fit : List (Op ℕ) → List NodeRef → Type 0
 Fit xs roles = (j : ℕ) → j < 79 → T (lineIs (roleSort j) xs (role roles j .0))
@@ -43,6 +43,21 @@ unfolding Fit
 fit-given ws n roles room size h j l =
     look-is ws n room (role roles j .0) (roleSort j)
     (one-fits ws n 0 roles h j (rw size l) ∙ ap (λ k. sortNumber (roleSort k)) (let e : 0 + j ≡ j = omega arith in e))
+
+-- and back: where each from role i on has its sort's number, all fit
+all-fit : (ws : List ℕ) (n i : ℕ) (rs : List NodeRef) → ((j : ℕ) → j < length rs → valueNumber (lookAt ws n (role rs j .0)) ≡ sortNumber (roleSort (i + j)))
+    → rolesFit ws n i rs ≡ true
+unfolding rolesFit
+all-fit ws n i [] h = refl
+all-fit ws n i (r ∷ rs) h =
+    rw (eq-eqb (valueNumber (lookAt ws n (r .0))) (sortNumber (roleSort i)) (h 0 (omega arith) ∙ ap (λ k. sortNumber (roleSort k)) (add-zero i)))
+    (all-fit ws n (i + 1) rs (λ j l. h (suc j) (omega arith) ∙ ap (λ k. sortNumber (roleSort k)) (let e : i + suc j ≡ i + 1 + j = omega arith in e)))
+
+pub given-fit : (ws : List ℕ) (n : ℕ) (roles : List NodeRef) → n * stride ≤ length ws → length roles ≡ 79 → Fit (operators ws n) roles → rolesFit ws n 0 roles ≡ true
+unfolding Fit
+given-fit ws n roles room size f =
+    all-fit ws n 0 roles
+    (λ j l. is-look ws n room (role roles j .0) (roleSort j) (f j (rw size at l)) ∙ ap (λ k. sortNumber (roleSort k)) (let e : j ≡ 0 + j = omega arith in e))
 
 -- ---- one role set
 

@@ -16,12 +16,16 @@ use Rattle.riscv.proofs.First.{Tests}
 use Rattle.roles.specs.Roles.{valueNumber, rolesFit}
 use Rattle.lowering_refusals.specs.declared.Room.{Room}
 use Rattle.lowering_refusals.specs.declared.State.{State}
-use Rattle.lowering_refusals.specs.Refusal.{countsOut, flagOut, refusalOf}
+use Rattle.lowering_refusals.specs.Refusal.{countsOut, flagOut, refusalGiven, refusalOf}
 use Rattle.lowering_refusals.proofs.Tests.{from8, from7, fromRecord, from13}
 
 passes : (t : Bool) (n : ℕ) (ts : Tests) → (n ≡ 0 → ⊥) → first ((t, n) ∷ ts) ≡ 0 → (t ≡ false) × (first ts ≡ 0)
 passes true n ts h e = absurd (h e)
 passes false n ts h e = (refl, e)
+
+fitting : (b : Bool) → not b ≡ false → b ≡ true
+fitting true e = refl
+fitting false e = sym e
 
 -- the record's own number is none
 record-passes : (n : ℕ) (ts : Tests) → first ((not (eqb n 0), n) ∷ ts) ≡ 0 → (n ≡ 0) × (first ts ≡ 0)
@@ -67,10 +71,17 @@ module _ (i : Instruction) (e : refusal i ≡ 0) where
 
 module _ (ws : List ℕ) (room : Room) (st : State) (i : Instruction) (pc flag : ℕ) (e : refusalOf ws room st i pc flag ≡ 0) where
   past-13 : first (fromRecord ws room st i pc flag) ≡ 0
-  unfolding refusalOf
+  unfolding refusalGiven
   past-13 =
       passes (not (rolesFit ws (st .tally .lines) 0 (st .roles))) 13 (fromRecord ws room st i pc flag) (λ z. omega arith)
-      (passes (countsOut room (st .tally) (st .counts)) 9 (from13 ws room st i pc flag) (λ z. omega arith) e .1) .1
+      (passes (countsOut room (st .tally) (st .counts)) 9 (from13 ws room st i pc flag (rolesFit ws (st .tally .lines) 0 (st .roles))) (λ z. omega arith) e .1) .1
+
+  pub roles-in : rolesFit ws (st .tally .lines) 0 (st .roles) ≡ true
+  unfolding refusalGiven
+  roles-in =
+      fitting (rolesFit ws (st .tally .lines) 0 (st .roles))
+      (passes (not (rolesFit ws (st .tally .lines) 0 (st .roles))) 13 (fromRecord ws room st i pc flag) (λ z. omega arith)
+      (passes (countsOut room (st .tally) (st .counts)) 9 (from13 ws room st i pc flag (rolesFit ws (st .tally .lines) 0 (st .roles))) (λ z. omega arith) e .1) .0)
 
   pub record-in : refusal i ≡ 0
   record-in = record-passes (refusal i) (from7 ws room st i pc flag) past-13 .0

@@ -1,0 +1,78 @@
+-- The operators of the lent words: how many, and what a lookup says of one. Assumes nothing.
+use Prim.Native.Nat.{ℕ, _+_, _*_, _≤_, _<_}
+use native.Mathlib.Omega.{arith}
+use mathlib.Core.Path.{_≡_, refl, sym, _∙_, ap, subst}
+use mathlib.Core.List.{List, [], _∷_, _++_, map}
+use lib.Dec.{T, eqb, eqb-refl, eqb→eq, lit<}
+use lib.ListN.{length, getD, length-map, List·getD-map}
+use Rattle.bitvec.proofs.Base.{by-le}
+use Rattle.btor2.specs.declared.NodeType.{NodeType}
+use Rattle.btor2.specs.declared.NodeType.the-variants.{Bit, Word, Memory, Input1Byte, Input2Byte, Input3Byte, Input4Byte, Input5Byte, Input6Byte, Input7Byte}
+use Rattle.btor2.specs.declared.MaybeSort.{MaybeSort}
+use Rattle.btor2.specs.declared.MaybeSort.the-variants.{Sort, NoSort}
+use Rattle.btor2.specs.Sort.{sortNumber}
+use Rattle.btor2.specs.Op.{Op, unknown, carried}
+use Rattle.btor2.specs.SortRule.{hasSort, lineIs}
+use Rattle.btor2_list.specs.Record.{stride}
+use Rattle.btor2_list.specs.Node.{Node, node}
+use Rattle.btor2_list.specs.View.{view}
+use Rattle.btor2_list.specs.Look.{seenAs, lookAt}
+use Rattle.btor2_list.proofs.View.{view-length}
+use Rattle.btor2_list.proofs.Seen.{look-line, look-past}
+use Rattle.roles.specs.Roles.{valueNumber}
+use Rattle.lowering_laws.specs.Lines.{numbered}
+use Rattle.meaning.specs.Lines.{operators}
+use Rattle.meaning.proofs.Behind.{inside}
+
+pub operators-length : (ws : List ℕ) (n : ℕ) → length (operators ws n) ≡ n
+unfolding operators
+operators-length ws n = length-map (view ws n) (λ line. line .op) ∙ view-length ws n
+
+-- lines under identifiers are the lines
+pub numbered-operators : (nid : ℕ) (os : List (Op ℕ)) → map (λ line. line .op) (numbered nid os) ≡ os
+unfolding numbered
+numbered-operators nid [] = refl
+numbered-operators nid (o ∷ os) = ap (λ l. o ∷ l) (numbered-operators (nid + 1) os)
+
+pub map-append : (l m : List Node) → map (λ line. line .op) (l ++ m) ≡ map (λ line. line .op) l ++ map (λ line. line .op) m
+map-append [] m = refl
+map-append (x ∷ l) m = ap (λ r. x .op ∷ r) (map-append l m)
+
+-- ---- a lookup
+
+positive : (s : NodeType) → 0 < sortNumber s
+positive Bit = lit< tt
+positive Word = lit< tt
+positive Memory = lit< tt
+positive Input1Byte = lit< tt
+positive Input2Byte = lit< tt
+positive Input3Byte = lit< tt
+positive Input4Byte = lit< tt
+positive Input5Byte = lit< tt
+positive Input6Byte = lit< tt
+positive Input7Byte = lit< tt
+
+seen-is : (nid : ℕ) (m : MaybeSort) (s : NodeType) → valueNumber (seenAs nid m) ≡ sortNumber s → T (hasSort s m)
+seen-is nid (Sort t) s e = subst (λ (k : ℕ). T (eqb (sortNumber s) k)) (sym e) (eqb-refl (sortNumber s))
+seen-is nid NoSort s e = absurd (omega (arith, positive s))
+
+pub look-is : (ws : List ℕ) (n : ℕ) → n * stride ≤ length ws → (p : ℕ) (s : NodeType) → valueNumber (lookAt ws n p) ≡ sortNumber s → T (lineIs s (operators ws n) p)
+unfolding lineIs operators
+look-is ws n room p s e =
+    by-le n p
+    (λ h. absurd (omega (arith, positive s, sym (ap valueNumber (look-past ws n room p h)) ∙ e)))
+    (λ h.
+    subst (λ (o : Op ℕ). T (hasSort s (carried o))) (sym (List·getD-map (λ (line : Node). line .op) (view ws n) p (node 0 unknown)))
+    (seen-is (getD (view ws n) p (node 0 unknown) .nid) (carried (getD (view ws n) p (node 0 unknown) .op)) s (sym (ap valueNumber (look-line ws n room p (node 0 unknown) h)) ∙ e)))
+
+-- and back
+is-seen : (nid : ℕ) (m : MaybeSort) (s : NodeType) → T (hasSort s m) → valueNumber (seenAs nid m) ≡ sortNumber s
+is-seen nid (Sort t) s h = sym (eqb→eq (sortNumber s) (sortNumber t) h)
+is-seen nid NoSort s h = absurd h
+
+pub is-look : (ws : List ℕ) (n : ℕ) → n * stride ≤ length ws → (p : ℕ) (s : NodeType) → T (lineIs s (operators ws n) p) → valueNumber (lookAt ws n p) ≡ sortNumber s
+unfolding lineIs operators
+is-look ws n room p s h =
+    ap valueNumber (look-line ws n room p (node 0 unknown) (rw (operators-length ws n) at (inside s (operators ws n) p h)))
+    ∙ is-seen (getD (view ws n) p (node 0 unknown) .nid) (carried (getD (view ws n) p (node 0 unknown) .op)) s
+    (subst (λ (o : Op ℕ). T (hasSort s (carried o))) (List·getD-map (λ (line : Node). line .op) (view ws n) p (node 0 unknown)) h)
