@@ -9,7 +9,7 @@ use Rattle.riscv.specs.Kind.{Kind, Lui, Auipc, Lb, Lh, Lw, Ld, Lbu, Lhu, Sb, Sh
 use Rattle.program.specs.Prog.{_>>=_}
 use Rattle.builder_ops.specs.Composed.{newNeq, newUgte, newSlt, newSgte, newOr, newXor, newSra, newShiftRight, newSextBy, newSext32, checkAdditionOverflow, checkMultiplicationOverflow}
 use Rattle.models.specs.Places.{Operands, Flows, Outcome, nothing, register, memory, branch, Modeled}
-use Rattle.models.specs.Counters.{countedRead, modelAddress, modelL, modelLd, modelS, modelSd, load, store}
+use Rattle.models.specs.Counters.{countedRead, modelAddress, wordAddress, bitOffset, modelL, modelLd, modelS, modelSd, load, store}
 use Rattle.models.specs.Kinds.{constant, link, withConstant, addend, sumWithConstant, modelAddi, modelAddiw, modelSltiu, modelSlliw, shiftedBack, withRegister, modelSltu, shifted, modelSllw, summed, summedWord, modelMul, modelMulw, divided, modelDivw, modelRemu, modelBranch, modelEcall}
 use Rattle.models.specs.Model.{regFlowIte, memoryFlowIte, unimplemented, translate}
 use Rattle.lowering_laws.specs.Lines.{linesOf, answerOf}
@@ -20,7 +20,7 @@ pub record Reading (A : Type 0) : Type 0 where
 
 module _ {A : Type 0} (at : ℕ → A) (e : Operands A) (f : Flows A) (r m : A) (imm : ℕ) (name : Name) where
   unfoldable pub reading : Kind → Bool → Bool → Bool → Reading A
-  unfolding translate regFlowIte memoryFlowIte unimplemented _>>=_ linesOf answerOf newNeq newUgte newSlt newSgte newOr newXor newSra newShiftRight newSextBy newSext32 checkAdditionOverflow checkMultiplicationOverflow countedRead modelAddress modelL modelLd modelS modelSd load store constant link withConstant addend sumWithConstant modelAddi modelAddiw modelSltiu modelSlliw shiftedBack withRegister modelSltu shifted modelSllw summed summedWord modelMul modelMulw divided modelDivw modelRemu modelBranch modelEcall
+  unfolding translate regFlowIte memoryFlowIte unimplemented _>>=_ linesOf answerOf newNeq newUgte newSlt newSgte newOr newXor newSra newShiftRight newSextBy newSext32 checkAdditionOverflow checkMultiplicationOverflow countedRead modelAddress wordAddress bitOffset modelL modelLd modelS modelSd load store constant link withConstant addend sumWithConstant modelAddi modelAddiw modelSltiu modelSlliw shiftedBack withRegister modelSltu shifted modelSllw summed summedWord modelMul modelMulw divided modelDivw modelRemu modelBranch modelEcall
   reading k z d s = let p = translate e f r m imm name k z d s in record { lines = linesOf at 0 p; gives = answerOf at 0 p }
 
   pub reads : (k : Kind) (z d s : Bool) → reading k z d s ≡ record { lines = linesOf at 0 (translate e f r m imm name k z d s); gives = answerOf at 0 (translate e f r m imm name k z d s) }

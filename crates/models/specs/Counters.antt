@@ -30,17 +30,27 @@ module _ {A : Type 0} where
     c ← newConst imm
     newBin add rs1 c
 
-  -- a load of 64 - spare bits at an address; it counts nothing
-  unfoldable pub modelL : Operands A → Flows A → ℕ → Bool → A → Prog A (Modeled A)
-  modelL e f spare signed address = do
+  -- the address of the word that an address is in
+  unfoldable pub wordAddress : A → Prog A A
+  wordAddress address = do
     mask ← newConst (2 ^ 64 - 8)
-    word ← newAndWord address mask
-    access ← newIte Word (e .flag) word (f .access)
-    cell ← newRead (e .memory) word
+    newAndWord address mask
+
+  -- how many bits its byte stands above the lowest of that word
+  unfoldable pub bitOffset : A → Prog A A
+  bitOffset address = do
     eight ← newConst 8
     seven ← newConst 7
     offset ← newAndWord address seven
-    amount ← newBin mul eight offset
+    newBin mul eight offset
+
+  -- a load of 64 - spare bits at an address; it counts nothing
+  unfoldable pub modelL : Operands A → Flows A → ℕ → Bool → A → Prog A (Modeled A)
+  modelL e f spare signed address = do
+    word ← wordAddress address
+    access ← newIte Word (e .flag) word (f .access)
+    cell ← newRead (e .memory) word
+    amount ← bitOffset address
     up ← newConst spare
     left ← newBin sub up amount
     high ← newBin sll cell left
@@ -57,15 +67,11 @@ module _ {A : Type 0} where
   -- a store of the bits of `ones` at an address; it counts a read
   unfoldable pub modelS : Operands A → Flows A → ℕ → A → Prog A (Modeled A)
   modelS e f ones address = do
-    mask ← newConst (2 ^ 64 - 8)
-    word ← newAndWord address mask
+    word ← wordAddress address
     access ← newIte Word (e .flag) word (f .access)
     c ← countedRead e f word
     bits ← newConst ones
-    eight ← newConst 8
-    seven ← newConst 7
-    offset ← newAndWord address seven
-    amount ← newBin mul eight offset
+    amount ← bitOffset address
     place ← newBin sll bits amount
     rest ← newNotWord place
     value ← newBin sll (e .rs2) amount

@@ -1,9 +1,10 @@
-// The address of a load or store, and the read that counts.
+// What loads and stores share: the address, its word, the byte's place in the word, and the read that counts.
 use btor2::NodeRef;
 use btor2::NodeType;
 use builder::Made;
 use builder::Tally;
 use builder_lines::Bin;
+use builder_lines::new_and_word;
 use builder_lines::new_bin;
 use builder_lines::new_const;
 use builder_lines::new_ite;
@@ -12,7 +13,7 @@ use builder_lines::new_write;
 use models::Counted;
 use models::Flows;
 use models::Operands;
-ghost use Rattle.models.specs.Counters.{countedRead, modelAddress};
+ghost use Rattle.models.specs.Counters.{countedRead, modelAddress, wordAddress, bitOffset};
 ghost use Rattle.builder.specs.Gives.{Gives};
 ghost use Rattle.models.specs.Code.{operandsOf, flowsOf, countedOf};
 
@@ -73,4 +74,22 @@ pub fn model_address(list: &mut [u64], t: Tally, z: bool, imm: u64, rs1: NodeRef
     }
     let c = new_const(list, t, imm);
     new_bin(list, c.tally, Bin::Add, rs1, c.node)
+}
+
+// The address of the word that an address is in.
+pub fn word_address(list: &mut [u64], t: Tally, address: NodeRef) -> Made
+    ensures { λ r. ⌜ Gives (now (list .entry)) t (wordAddress (address .0)) (now (list .exit)) (r .tally) (r .node .0) ⌝ }
+{
+    let mask = new_const(list, t, 0xffff_ffff_ffff_fff8);
+    new_and_word(list, mask.tally, address, mask.node)
+}
+
+// How many bits the byte at an address stands above the lowest of its word.
+pub fn bit_offset(list: &mut [u64], t: Tally, address: NodeRef) -> Made
+    ensures { λ r. ⌜ Gives (now (list .entry)) t (bitOffset (address .0)) (now (list .exit)) (r .tally) (r .node .0) ⌝ }
+{
+    let eight = new_const(list, t, 8);
+    let seven = new_const(list, eight.tally, 7);
+    let offset = new_and_word(list, seven.tally, address, seven.node);
+    new_bin(list, offset.tally, Bin::Mul, eight.node, offset.node)
 }

@@ -4,7 +4,6 @@ use btor2::NodeType;
 use builder::Tally;
 use builder_extend::new_shift_right;
 use builder_lines::Bin;
-use builder_lines::new_and_word;
 use builder_lines::new_bin;
 use builder_lines::new_const;
 use builder_lines::new_ite;
@@ -13,8 +12,10 @@ use models::Flows;
 use models::Modeled;
 use models::Operands;
 use models::Outcome;
+use models_address::bit_offset;
 use models_address::counted_read;
 use models_address::model_address;
+use models_address::word_address;
 ghost use Rattle.models.specs.Counters.{modelL, modelLd, load};
 ghost use Rattle.builder.specs.Gives.{Gives};
 ghost use Rattle.models.specs.Code.{operandsOf, flowsOf, modeledOf};
@@ -30,8 +31,7 @@ fn model_l(
 ) -> Modeled
     ensures { λ r. ⌜ Gives (now (list .entry)) t (modelL (operandsOf e) (flowsOf f) spare signed (address .0)) (now (list .exit)) (r .tally) (modeledOf r) ⌝ }
 {
-    let mask = new_const(list, t, 0xffff_ffff_ffff_fff8);
-    let word = new_and_word(list, mask.tally, address, mask.node);
+    let word = word_address(list, t, address);
     let access = new_ite(
         list,
         word.tally,
@@ -41,10 +41,7 @@ fn model_l(
         f.access,
     );
     let cell = new_read(list, access.tally, e.memory, word.node);
-    let eight = new_const(list, cell.tally, 8);
-    let seven = new_const(list, eight.tally, 7);
-    let offset = new_and_word(list, seven.tally, address, seven.node);
-    let amount = new_bin(list, offset.tally, Bin::Mul, eight.node, offset.node);
+    let amount = bit_offset(list, cell.tally, address);
     let up = new_const(list, amount.tally, spare);
     let left = new_bin(list, up.tally, Bin::Sub, up.node, amount.node);
     let high = new_bin(list, left.tally, Bin::Sll, cell.node, left.node);

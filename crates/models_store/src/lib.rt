@@ -14,8 +14,10 @@ use models::Flows;
 use models::Modeled;
 use models::Operands;
 use models::Outcome;
+use models_address::bit_offset;
 use models_address::counted_read;
 use models_address::model_address;
+use models_address::word_address;
 ghost use Rattle.models.specs.Counters.{modelS, modelSd, store};
 ghost use Rattle.builder.specs.Gives.{Gives};
 ghost use Rattle.models.specs.Code.{operandsOf, flowsOf, modeledOf};
@@ -30,8 +32,7 @@ fn model_s(
 ) -> Modeled
     ensures { λ r. ⌜ Gives (now (list .entry)) t (modelS (operandsOf e) (flowsOf f) ones (address .0)) (now (list .exit)) (r .tally) (modeledOf r) ⌝ }
 {
-    let mask = new_const(list, t, 0xffff_ffff_ffff_fff8);
-    let word = new_and_word(list, mask.tally, address, mask.node);
+    let word = word_address(list, t, address);
     let access = new_ite(
         list,
         word.tally,
@@ -42,10 +43,7 @@ fn model_s(
     );
     let c = counted_read(list, access.tally, e, f, word.node);
     let bits = new_const(list, c.tally, ones);
-    let eight = new_const(list, bits.tally, 8);
-    let seven = new_const(list, eight.tally, 7);
-    let offset = new_and_word(list, seven.tally, address, seven.node);
-    let amount = new_bin(list, offset.tally, Bin::Mul, eight.node, offset.node);
+    let amount = bit_offset(list, bits.tally, address);
     let place = new_bin(list, amount.tally, Bin::Sll, bits.node, amount.node);
     let rest = new_not_word(list, place.tally, place.node);
     let value = new_bin(list, rest.tally, Bin::Sll, e.rs2, amount.node);

@@ -6,11 +6,7 @@ use Rattle.models_store.proofs.model_s.Tie as tie
 returns : tie.Need-returns
 unfolding modelS
 returns c =
-    let c16 = c .before .before .before .before .before .before .before in
-    let c15 = c16 .before .before .before .before in
-    let c14 = c15 .before .before .before .before in
-    let c13 = c14 .before .before .before .before in
-    let c12 = c13 .before .before .before .before in
+    let c12 = c .before .before .before .before .before .before .before in
     let c11 = c12 .before .before .before .before in
     let c10 = c11 .before .before .before .before in
     let c9 = c10 .before .before .before .before in
@@ -22,22 +18,18 @@ returns c =
     let c3 = c4 .before .before .before .before in
     let c2 = c3 .before .before .before .before in
     let c1 = c2 .before .before .before .before in
-    on _ (c1 .new-const .ensures) (
-    on _ (c2 .new-and-word .ensures) (
-    on _ (c3 .new-ite .ensures) (
-    on _ (c4 .counted-read .ensures) (
-    on _ (c5 .new-const2 .ensures) (
-    on _ (c6 .new-const3 .ensures) (
-    on _ (c7 .new-const4 .ensures) (
-    on _ (c8 .new-and-word2 .ensures) (
-    on _ (c9 .new-bin .ensures) (
-    on _ (c10 .new-bin2 .ensures) (
-    on _ (c11 .new-not-word .ensures) (
-    on _ (c12 .new-bin3 .ensures) (
-    on _ (c13 .new-and-word3 .ensures) (
-    on _ (c14 .new-and-word4 .ensures) (
-    on _ (c15 .new-or .ensures) (
-    on _ (c16 .new-write .ensures) stop)))))))))))))))
+    on _ (c1 .word-address .ensures) (
+    on _ (c2 .new-ite .ensures) (
+    on _ (c3 .counted-read .ensures) (
+    on _ (c4 .new-const .ensures) (
+    on _ (c5 .bit-offset .ensures) (
+    on _ (c6 .new-bin .ensures) (
+    on _ (c7 .new-not-word .ensures) (
+    on _ (c8 .new-bin2 .ensures) (
+    on _ (c9 .new-and-word .ensures) (
+    on _ (c10 .new-and-word2 .ensures) (
+    on _ (c11 .new-or .ensures) (
+    on _ (c12 .new-write .ensures) stop)))))))))))
 
 pub model-s-spec : {M : Type 1} → statement M
-model-s-spec = tie.close (tie.spec free free free free free free free free free free free free free free free free (λ c. kept (returns c)) returns)
+model-s-spec = tie.close (tie.spec free free free free free free free free free free free free (λ c. kept (returns c)) returns)
