@@ -11,7 +11,7 @@ use Rattle.digits.specs.Pairs.{two, four}
 use Rattle.digits.proofs.Length.{ten-to}
 
 -- more room for digits than a number has changes nothing
-wider : (j k x : ℕ) → x < ten-to (suc j) → numeral 10 (suc j) x ≡ numeral 10 (suc (j + k)) x
+pub wider : (j k x : ℕ) → x < ten-to (suc j) → numeral 10 (suc j) x ≡ numeral 10 (suc (j + k)) x
 unfolding numeral
 wider zero k x h = let l : x < 10 = omega arith in rw (lt-ltb x 10 l)
 wider (suc j) k x h = go (wider j k (x / 10) (omega arith)) (decLe 10 x)

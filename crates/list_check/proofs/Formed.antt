@@ -18,7 +18,7 @@ use Rattle.btor2_list.specs.Look.{seenAs, lookAt}
 use Rattle.btor2_list.proofs.View.{view-length, view-at}
 use Rattle.list_check.specs.Lines.{ops, opAt, some, any, pastWords}
 use Rattle.list_check.specs.Formed.{isUnknown, extFromMemory, operands, nameOf, nameOutside, hasValue, earlierValue, opUnformed, lineUnformed, unformed, unformedWords}
-use Rattle.list_check.specs.Inside.{noValue, noValueAt}
+use Rattle.list_check.specs.Operand.{noValue, noValueAt}
 use Rattle.list_check.proofs.Some.{some-same, some-none}
 
 -- what the record at place p says

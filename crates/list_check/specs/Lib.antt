@@ -1,4 +1,4 @@
 pub mod Lines
 pub mod Operator
 pub mod Formed
-pub mod Inside
+pub mod Operand

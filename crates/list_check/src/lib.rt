@@ -48,7 +48,7 @@ ghost use Rattle.btor2_list.specs.Node.{opOf};
 ghost use Rattle.list_check.specs.Operator.{opFrom};
 ghost use Rattle.list_check.specs.Lines.{any};
 ghost use Rattle.list_check.specs.Formed.{nameOutside, opUnformed, unformedWords};
-ghost use Rattle.list_check.specs.Inside.{noValueAt};
+ghost use Rattle.list_check.specs.Operand.{noValueAt};
 
 // The operators on two words.
 pub enum Bin {
@@ -176,7 +176,8 @@ pub fn unformed(list: &[u64], lines: usize, host: usize, ours: usize) -> bool
     false
 }
 
-fn line_unformed(list: &[u64], i: usize, host: usize, ours: usize) -> bool
+// The same of line i alone. True where the words do not hold it.
+pub fn line_unformed(list: &[u64], i: usize, host: usize, ours: usize) -> bool
     ensures { λ r. ⌜ r ≡ cond (holds (now (list .entry)) i) (opUnformed host ours (noValueAt (now (list .entry)) i) (opOf (lineAt (now (list .entry)) (i * stride)))) true ⌝ }
 {
     match get(list, NodeRef(i)) {

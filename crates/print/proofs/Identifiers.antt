@@ -14,7 +14,7 @@ use Rattle.line_text.proofs.Listed.{length-nodes, nid-outside}
 use Rattle.print.specs.Printing.{nidOut, nidsOut}
 
 module _ (ws : List ℕ) (lines : ℕ) (in-bounds : nidsOut ws lines ≡ false) (p : ℕ) where
-  nid-most : nidAt (nodes ws lines) p ≤ 2 ^ 31 + 2097152
+  pub nid-most : nidAt (nodes ws lines) p ≤ 2 ^ 31 + 2097152
   unfolding nidsOut
   nid-most = go (decLe lines p)
     where

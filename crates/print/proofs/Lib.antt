@@ -1,2 +1,4 @@
 pub mod Outcomes
 pub mod Identifiers
+pub mod Rooms
+pub mod Bounds

@@ -1,15 +1,27 @@
 // Prints a run of the list's lines into an output, or refuses.
 use btor2::NodeRef;
 ghost use mathlib.Core.Path.{_≡_};
-ghost use Prim.Native.Nat.{_-_, _^_, min};
+ghost use mathlib.Core.Bool.{true};
+ghost use Prim.Native.Nat.{_+_, _-_, _/_, _^_, _<_, _≤_, min};
 ghost use lib.ListN.{length};
 ghost use Rattle.line_text.specs.Line.{nodes, runText};
+ghost use Rattle.btor2_list.specs.declared.Line.{Line};
+ghost use Rattle.btor2_list.specs.Node.{opOf};
+ghost use Rattle.print.specs.Room.{said, roomOf, runOut, Sound, Surveyed, Roomy};
 ghost use Rattle.print.specs.Printing.{nidsOut, boundsOut, answerOf, outcome, printing};
 
 // The most lines that a list holds, and the largest identifier of a line.
 const MOST_LINES: usize = 1_048_576;
 
 const MOST_NID: u64 = 2_149_580_800;
+
+// The most bytes of a line of such an identifier, and how many more one with a name has besides the name: a State has a second row.
+const LINE_ROOM: usize = 53;
+
+const NAMED_ROOM: usize = 10;
+
+// The largest number: more than any room.
+const LAST: usize = 18446744073709551615;
 
 // What printing answers: the number of its refusal, or how many bytes it wrote.
 pub enum Printed {
@@ -18,7 +30,8 @@ pub enum Printed {
 }
 
 // Puts the `count` lines from place `from` on at the output's start. `lines` is how many lines the list has; `host` and `ours` are the areas
-// of the names. A refusal changes nothing.
+// of the names. A refusal changes nothing. Where one pass over the list finds that no refusal applies, as there is room for lines as long as
+// they can be, the run is put at once; else the refusals are tested one by one, and the run is measured.
 pub fn print<'a>(
     list: &[u64],
     lines: usize,
@@ -30,6 +43,10 @@ pub fn print<'a>(
 ) -> Printed
     ensures { λ r. ⌜ outcome (answerOf r) (now (out .exit)) ≡ printing (now (list .entry)) lines (now (host .entry)) (now (ours .entry)) from count (now (out .entry)) ⌝ }
 {
+    if roomy(list, lines, host.len(), ours.len(), from, count, out.len()) {
+        let n = line_text::put_run(out, 0, list, lines, host, ours, from, count);
+        return Printed::Written(n);
+    }
     if bounds_out(list, lines, from, count) {
         return Printed::Refused(9);
     }
@@ -44,9 +61,93 @@ pub fn print<'a>(
     Printed::Written(n)
 }
 
-// 9: too many lines, a count above its storage, a run outside the list, or too large an identifier.
-fn bounds_out(list: &[u64], lines: usize, from: usize, count: usize) -> bool
-    ensures { λ r. ⌜ r ≡ boundsOut (now (list .entry)) lines from count ⌝ }
+// No refusal applies: the list is in bounds and well formed, and the run fits in `end` bytes however long its lines are.
+fn roomy(
+    list: &[u64],
+    lines: usize,
+    host: usize,
+    ours: usize,
+    from: usize,
+    count: usize,
+    end: usize,
+) -> bool
+    ensures { λ r. ⌜ (r ≡ true → Roomy (now (list .entry)) lines host ours from count end) ⌝ }
+{
+    if run_out(list, lines, from, count) {
+        return false;
+    }
+    let names = survey(list, lines, host, ours);
+    if end <= names {
+        return false;
+    }
+    LINE_ROOM * count <= end - names
+}
+
+// The room for the names of all lines, or the largest number where a line has too large an identifier or is not well formed.
+fn survey(list: &[u64], lines: usize, host: usize, ours: usize) -> usize
+    requires { ⌜ lines ≤ length (now list) / 10 ⌝ }
+    ensures { λ r. ⌜ (r < 2 ^ 64 - 1 → Surveyed (now (list .entry)) lines host ours lines r) ⌝ }
+{
+    let mut names = 0;
+    let mut i = 0;
+    while i < lines {
+        names = line_room(list, lines, host, ours, i, names);
+        if names == LAST {
+            return LAST;
+        }
+        i += 1;
+    }
+    names
+}
+
+// `names`, and the room for the name of line i.
+fn line_room(list: &[u64], lines: usize, host: usize, ours: usize, i: usize, names: usize) -> usize
+    requires { ⌜ i < length (now list) / 10 ⌝ }
+    ensures { λ r. ⌜ (r < 2 ^ 64 - 1 → Sound (now (list .entry)) lines host ours i × (names + roomOf (said (now (list .entry)) i) ≤ r)) ⌝ }
+{
+    let nid = line_text::nid_at(list, lines, NodeRef(i));
+    if MOST_NID < nid.0 {
+        return LAST;
+    }
+    if list_check::line_unformed(list, i, host, ours) {
+        return LAST;
+    }
+    let at = i * btor2_list::STRIDE;
+    name_room(
+        list[at + btor2_list::AT_KIND],
+        list[at + btor2_list::AT_NAME_LEN],
+        names,
+    )
+}
+
+// `names`, and the room for a name of so many bytes where lines of the kind are named.
+fn name_room(kind: u64, len: u64, names: usize) -> usize
+    ensures { λ r. ⌜ ((l : Line) → l .kind ≡ kind → l .name .len ≡ len → r < 2 ^ 64 - 1 → names + roomOf (opOf l) ≤ r) ⌝ }
+{
+    match kind {
+        btor2_list::STATE => more(names, len),
+        btor2_list::INPUT => more(names, len),
+        btor2_list::BAD => more(names, len),
+        _ => names,
+    }
+}
+
+fn more(names: usize, len: u64) -> usize
+    ensures { λ r. ⌜ (r < 2 ^ 64 - 1 → names + (10 + len) ≤ r) ⌝ }
+{
+    let left = LAST - names;
+    if left <= NAMED_ROOM {
+        return LAST;
+    }
+    if left - NAMED_ROOM <= len as usize {
+        return LAST;
+    }
+    names + NAMED_ROOM + len as usize
+}
+
+// 9, but for the identifiers: too many lines, a count above its storage, or a run outside the list.
+fn run_out(list: &[u64], lines: usize, from: usize, count: usize) -> bool
+    ensures { λ r. ⌜ r ≡ runOut (now (list .entry)) lines from count ⌝ }
 {
     if MOST_LINES < lines {
         return true;
@@ -57,7 +158,14 @@ fn bounds_out(list: &[u64], lines: usize, from: usize, count: usize) -> bool
     if lines < from {
         return true;
     }
-    if lines - from < count {
+    lines - from < count
+}
+
+// 9: too many lines, a count above its storage, a run outside the list, or too large an identifier.
+fn bounds_out(list: &[u64], lines: usize, from: usize, count: usize) -> bool
+    ensures { λ r. ⌜ r ≡ boundsOut (now (list .entry)) lines from count ⌝ }
+{
+    if run_out(list, lines, from, count) {
         return true;
     }
     nids_out(list, lines)

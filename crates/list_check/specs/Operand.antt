@@ -1,4 +1,4 @@
--- What only private contracts cite.
+-- An operand by a lookup (document 01, refusal 11: "an operand that isn't an earlier value line").
 use Prim.Native.Nat.{ℕ}
 use mathlib.Core.Bool.{Bool, true, false}
 use mathlib.Core.List.{List}

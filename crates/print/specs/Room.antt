@@ -1,0 +1,65 @@
+-- What only private contracts cite: a list with no refusal but perhaps 14, and the room that its text takes at most.
+use Prim.Native.Nat.{ℕ, zero, suc, _+_, _*_, _/_, _≤_}
+use mathlib.Core.Path.{_≡_}
+use mathlib.Core.Bool.{Bool, false, _||_}
+use mathlib.Core.List.{List}
+use lib.Dec.{ltb}
+use lib.ListN.{length}
+use Rattle.btor2.specs.Op.{Op, const, read, write, bin, uext, ite, eq, and, or, not, state, stateInit, next, input, bad, unknown}
+use Rattle.btor2_list.specs.Record.{stride, lineAt}
+use Rattle.btor2_list.specs.Node.{opOf}
+use Rattle.list_check.specs.Lines.{some, pastWords}
+use Rattle.list_check.specs.Formed.{opUnformed, unformedWords}
+use Rattle.list_check.specs.Operand.{noValueAt}
+use Rattle.print.specs.Printing.{nidOut, nidsOut, boundsOut}
+
+-- what the record at place p says
+abbrev pub said : List ℕ → ℕ → Op ℕ
+said ws p = opOf (lineAt ws (p * stride))
+
+-- how many bytes more than 53 a line takes at most: a named one has its name, or `?`, and perhaps a second row
+abbrev pub roomOf : Op ℕ → ℕ
+roomOf (const s n) = 0
+roomOf (read m a) = 0
+roomOf (write m a v) = 0
+roomOf (bin o a b) = 0
+roomOf (uext s a) = 0
+roomOf (ite s c a b) = 0
+roomOf (eq a b) = 0
+roomOf (and s a b) = 0
+roomOf (or s a b) = 0
+roomOf (not s a) = 0
+roomOf (state s m) = 10 + m .len
+roomOf (stateInit s a m) = 10 + m .len
+roomOf (next s a b) = 0
+roomOf (input s m) = 10 + m .len
+roomOf (bad a m) = 10 + m .len
+roomOf unknown = 0
+
+-- of the first n lines
+unfoldable pub rooms : List ℕ → ℕ → ℕ
+rooms ws zero = 0
+rooms ws (suc n) = rooms ws n + roomOf (said ws n)
+
+-- 9 but for the identifiers
+abbrev pub runOut : List ℕ → ℕ → ℕ → ℕ → Bool
+runOut ws lines from count = ltb 1048576 lines || (pastWords ws lines || ltb lines (from + count))
+
+-- line i has neither 9 nor 11
+pub record Sound (ws : List ℕ) (lines host ours i : ℕ) : Type 0 where
+  pub nid : nidOut ws lines i ≡ false
+  pub formed : opUnformed host ours (noValueAt ws i) (said ws i) ≡ false
+
+-- the first n lines have neither, and r has room for their names
+pub record Surveyed (ws : List ℕ) (lines host ours n r : ℕ) : Type 0 where
+  pub nids : some n (nidOut ws lines) ≡ false
+  pub formed : some n (λ p. opUnformed host ours (noValueAt ws p) (said ws p)) ≡ false
+  pub room : rooms ws n ≤ r
+
+pub record Roomy (ws : List ℕ) (lines host ours from count end : ℕ) : Type 0 where
+  pub in-bounds : boundsOut ws lines from count ≡ false
+  pub nids : nidsOut ws lines ≡ false
+  pub held : lines ≤ length ws / stride
+  pub inside : from + count ≤ lines
+  pub formed : unformedWords ws lines host ours ≡ false
+  pub room : 53 * count + rooms ws lines ≤ end
