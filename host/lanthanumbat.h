@@ -40,7 +40,7 @@
 extern "C" {
 #endif
 
-enum { LANTHANUMBAT_LINE = 10, LANTHANUMBAT_EDGE = 4, LANTHANUMBAT_DISPATCH = 2, LANTHANUMBAT_STATE = 85, LANTHANUMBAT_MOST_LINES = 1048576 };
+enum { LANTHANUMBAT_LINE = 10, LANTHANUMBAT_EDGE = 4, LANTHANUMBAT_DISPATCH = 2, LANTHANUMBAT_STATE = 85, LANTHANUMBAT_CALL = 7, LANTHANUMBAT_MOST_LINES = 1048576 };
 
 // Lowers one instruction. Refusals 9, 13, 1 to 8. An instruction appends at most 37 lines, 2 edges, a dispatch, or a bad and its name.
 //   address         of the instruction
@@ -53,6 +53,14 @@ uint64_t lanthanumbat_lower(uint64_t *list, size_t list_words, uint8_t *names, s
                             uint64_t *dispatches, size_t dispatches_words, uint64_t *bads, size_t bads_words, uint64_t *state,
                             size_t state_words, uint64_t address, uint64_t kind, uint64_t rd, uint64_t rs1, uint64_t rs2, uint64_t imm,
                             size_t flag);
+
+// Lowers many instructions, one after the other, and stops at the first that is refused: what the accepted ones did stays. The roles are checked
+// once, so this is much faster than a call for each. Gives how many were accepted.
+//   calls           seven words a call: address, kind, rd, rs1, rs2, imm, flag, as above; words at the end that fill no call are not looked at
+//   refusal         is set to the number of the refusal of the call at which it stopped, 0 where every call was accepted
+size_t lanthanumbat_lower_all(uint64_t *list, size_t list_words, uint8_t *names, size_t names_bytes, uint64_t *edges, size_t edges_words,
+                              uint64_t *dispatches, size_t dispatches_words, uint64_t *bads, size_t bads_words, uint64_t *state,
+                              size_t state_words, const uint64_t *calls, size_t calls_words, uint64_t *refusal);
 
 // Prints a run of lines as BTOR2 at the output's start. Refusals 9, 11 (both over the whole list), 14.
 //   lines           how many lines the list has

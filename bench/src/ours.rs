@@ -4,11 +4,11 @@ use crate::measure::{fail, Half, Record};
 
 extern "C" {
     #[rustfmt::skip]
-    fn lanthanumbat_lower(
+    fn lanthanumbat_lower_all(
         list: *mut u64, list_len: usize, names: *mut u8, names_len: usize, edges: *mut u64, edges_len: usize,
         dispatches: *mut u64, dispatches_len: usize, bads: *mut u64, bads_len: usize, state: *mut u64, state_len: usize,
-        address: u64, kind: u64, rd: u64, rs1: u64, rs2: u64, imm: u64, flag: usize,
-    ) -> u64;
+        calls: *const u64, calls_len: usize, refusal: *mut u64,
+    ) -> usize;
     #[rustfmt::skip]
     fn lanthanumbat_print(
         list: *const u64, list_len: usize, lines: usize, host: *const u8, host_len: usize, ours: *const u8, ours_len: usize,
@@ -34,6 +34,7 @@ struct Lent {
     dispatches: Vec<u64>,
     bads: Vec<u64>,
     state: Vec<u64>,
+    calls: Vec<u64>,
     text: Vec<u8>,
     printed: usize,
 }
@@ -73,35 +74,39 @@ impl Half for Ours<'_> {
         "ours"
     }
 
+    // The storage of a repetition is lent again to the next, as freed memory is taken again in the Rust's half.
     fn begin(&mut self) {
         let count = self.records.len();
-        self.lent = Lent {
-            list: vec![0; MOST_LINES * LINE],
-            names: vec![0; count * MOST_NAME],
-            edges: vec![0; count * 8],
-            dispatches: vec![0; count * 2],
-            bads: vec![0; count],
-            state: state(),
-            text: vec![0; MOST_LINES * MOST_TEXT],
-            printed: 0,
-        };
+        if self.lent.list.is_empty() {
+            self.lent = Lent {
+                list: vec![0; MOST_LINES * LINE],
+                names: vec![0; count * MOST_NAME],
+                edges: vec![0; count * 8],
+                dispatches: vec![0; count * 2],
+                bads: vec![0; count],
+                state: Vec::new(),
+                calls: self.records.iter().flat_map(|r| [r.address, r.kind, r.rd, r.rs1, r.rs2, r.imm, FLAG as u64]).collect(),
+                text: vec![0; MOST_LINES * MOST_TEXT],
+                printed: 0,
+            };
+        }
+        self.lent.state = state();
         start(&mut self.lent.list);
     }
 
     fn lower(&mut self) -> usize {
-        let Lent { list, names, edges, dispatches, bads, state, .. } = &mut self.lent;
-        for r in self.records {
-            #[rustfmt::skip]
-            let refusal = unsafe {
-                lanthanumbat_lower(
-                    list.as_mut_ptr(), list.len(), names.as_mut_ptr(), names.len(), edges.as_mut_ptr(), edges.len(),
-                    dispatches.as_mut_ptr(), dispatches.len(), bads.as_mut_ptr(), bads.len(), state.as_mut_ptr(), state.len(),
-                    r.address, r.kind, r.rd, r.rs1, r.rs2, r.imm, FLAG,
-                )
-            };
-            if refusal != 0 {
-                fail(&format!("ours refuses {:?} with {}", r.text, refusal))
-            }
+        let Lent { list, names, edges, dispatches, bads, state, calls, .. } = &mut self.lent;
+        let mut refusal = 0;
+        #[rustfmt::skip]
+        let done = unsafe {
+            lanthanumbat_lower_all(
+                list.as_mut_ptr(), list.len(), names.as_mut_ptr(), names.len(), edges.as_mut_ptr(), edges.len(),
+                dispatches.as_mut_ptr(), dispatches.len(), bads.as_mut_ptr(), bads.len(), state.as_mut_ptr(), state.len(),
+                calls.as_ptr(), calls.len(), &mut refusal,
+            )
+        };
+        if done != self.records.len() {
+            fail(&format!("ours refuses {:?} with {}", self.records[done].text, refusal))
         }
         state[0] as usize - START
     }
@@ -127,6 +132,6 @@ impl Half for Ours<'_> {
     }
 
     fn end(&mut self) {
-        self.lent = Lent::default();
+        self.lent.printed = 0;
     }
 }

@@ -12,6 +12,7 @@ use Rattle.print.specs.Printing as Printing
 use Rattle.print.specs.Printing.{refused, written, printing}
 use Rattle.start.specs.Start.{startRefusal}
 use Rattle.lowering.specs.Lowering.{Lent, Answer, lowering}
+use Rattle.lowering_all.specs.All.{AnswerAll, loweringAll}
 
 -- ---- the state's 85 words
 
@@ -61,6 +62,25 @@ givenBy ws a = given (a .lowered .refusal) (a .lent) (withState ws (a .lowered .
 -- 9: "a count above its storage", where there is no room for the counts themselves; else what the lowering of the state in these words gives
 unfoldable pub hostLowering : Lent → List ℕ → Instruction → ℕ → NodeRef → Given
 hostLowering l ws i pc flag = cond (ltb (length ws) 85) (given 9 l ws) (givenBy ws (lowering l (stateIn ws) i pc flag))
+
+-- ---- many lowerings
+
+-- how many were accepted, the number of the next one's refusal or 0, the lent lists and the state's words
+pub record GivenAll : Type 0 where
+  pub done : ℕ
+  pub refusal : ℕ
+  pub lent : Lent
+  pub state : List ℕ
+
+abbrev pub givenAll : ℕ → ℕ → Lent → List ℕ → GivenAll
+givenAll done n l ws = record { done = done; refusal = n; lent = l; state = ws }
+
+abbrev pub allBy : List ℕ → AnswerAll → GivenAll
+allBy ws a = givenAll (a .lowered .done) (a .lowered .refusal) (a .lent) (withState ws (a .lowered .state))
+
+-- 9 as above; else what the lowering of all calls from the state in these words gives
+unfoldable pub hostLoweringAll : Lent → List ℕ → List ℕ → GivenAll
+hostLoweringAll l ws calls = cond (ltb (length ws) 85) (givenAll 0 9 l ws) (allBy ws (loweringAll l (stateIn ws) calls))
 
 -- ---- printing
 

@@ -10,7 +10,7 @@ ghost use Prim.Native.Nat.{_≤_};
 ghost use lib.ListN.{length};
 ghost use Rattle.lowering.specs.Lowering.{lent};
 ghost use Rattle.lowering_refusals.specs.Refusal.{roomOf};
-ghost use Rattle.host.specs.Host.{rolesIn, stateIn, stateOut, withRoles, withState, given, hostLowering, givenText, hostPrinting, hostCheck};
+ghost use Rattle.host.specs.Host.{rolesIn, stateIn, stateOut, withRoles, withState, given, hostLowering, givenAll, hostLoweringAll, givenText, hostPrinting, hostCheck};
 
 // The words of a state: lines, next identifier, counts of names, edges, dispatches and bads, and from this place on the roles.
 const STATE_WORDS: usize = 85;
@@ -68,6 +68,33 @@ pub extern "C" fn lanthanumbat_lower(
     let after = lowered.state;
     put_state(state, after);
     0
+}
+
+// Lowers call after call, seven words each: address, kind, rd, rs1, rs2, imm, flag. Stops at the first that is refused: gives how many were
+// accepted, and through `refusal` the number of the next one's refusal, or 0.
+#[no_mangle]
+pub extern "C" fn lanthanumbat_lower_all(
+    list: &mut [u64],
+    names: &mut [u8],
+    edges: &mut [u64],
+    dispatches: &mut [u64],
+    bads: &mut [u64],
+    state: &mut [u64],
+    calls: &[u64],
+    refusal: &mut u64,
+) -> usize
+    ensures { λ r. ⌜ givenAll r (now (refusal .exit)) (lent (now (list .exit)) (now (names .exit)) (now (edges .exit)) (now (dispatches .exit)) (now (bads .exit))) (now (state .exit)) ≡ hostLoweringAll (lent (now (list .entry)) (now (names .entry)) (now (edges .entry)) (now (dispatches .entry)) (now (bads .entry))) (now (state .entry)) (now (calls .entry)) ⌝ }
+{
+    if state.len() < STATE_WORDS {
+        *refusal = BAD_COUNT;
+        return 0;
+    }
+    let before = state_in(state);
+    let lowered = lowering_all::lower_all(list, names, edges, dispatches, bads, before, calls);
+    let after = lowered.state;
+    put_state(state, after);
+    *refusal = lowered.refusal;
+    lowered.done
 }
 
 // Puts the `count` lines from place `from` on, of a list of this many lines, at the output's start. Gives the number of the refusal, or 0, and

@@ -10,6 +10,12 @@ mod ffi {
             address: u64, kind: u64, rd: u64, rs1: u64, rs2: u64, imm: u64, flag: usize,
         ) -> u64;
         #[rustfmt::skip]
+        pub fn lanthanumbat_lower_all(
+            list: *mut u64, list_words: usize, names: *mut u8, names_bytes: usize, edges: *mut u64, edges_words: usize,
+            dispatches: *mut u64, dispatches_words: usize, bads: *mut u64, bads_words: usize, state: *mut u64, state_words: usize,
+            calls: *const u64, calls_words: usize, refusal: *mut u64,
+        ) -> usize;
+        #[rustfmt::skip]
         pub fn lanthanumbat_print(
             list: *const u64, list_words: usize, lines: usize, host: *const u8, host_bytes: usize, ours: *const u8, ours_bytes: usize,
             from: usize, count: usize, out: *mut u8, out_bytes: usize, written: *mut u64,
@@ -23,11 +29,12 @@ mod ffi {
     }
 }
 
-/// The words of a line, an edge, a dispatch and the state.
+/// The words of a line, an edge, a dispatch, the state and a call.
 pub const LINE: usize = 10;
 pub const EDGE: usize = 4;
 pub const DISPATCH: usize = 2;
 pub const STATE: usize = 85;
+pub const CALL: usize = 7;
 
 /// The number of a refusal, 1 to 14.
 #[derive(Clone, Copy, Debug, PartialEq, Eq)]
@@ -48,6 +55,13 @@ pub struct Instruction {
     pub rs1: u64,
     pub rs2: u64,
     pub imm: i64,
+}
+
+impl Instruction {
+    /// The words of a call: this instruction at an address under the flag at a place.
+    pub fn call(self, address: u64, flag: usize) -> [u64; CALL] {
+        [address, self.kind, self.rd, self.rs1, self.rs2, self.imm as u64, flag as u64]
+    }
 }
 
 /// The storage that the host lends, and the state.
@@ -79,6 +93,22 @@ impl Lent<'_> {
             )
         };
         refused(number)
+    }
+
+    /// Lowers call after call, up to the first that is refused. Gives how many were accepted, and that one's refusal.
+    pub fn lower_all(&mut self, calls: &[[u64; CALL]]) -> (usize, Result<(), Refusal>) {
+        let calls = calls.as_flattened();
+        let mut number = 0;
+        #[rustfmt::skip]
+        let done = unsafe {
+            ffi::lanthanumbat_lower_all(
+                self.list.as_mut_ptr(), self.list.len(), self.names.as_mut_ptr(), self.names.len(),
+                self.edges.as_mut_ptr(), self.edges.len(), self.dispatches.as_mut_ptr(), self.dispatches.len(),
+                self.bads.as_mut_ptr(), self.bads.len(), self.state.as_mut_ptr(), self.state.len(),
+                calls.as_ptr(), calls.len(), &mut number,
+            )
+        };
+        (done, refused(number))
     }
 
     /// Checks a start, with the host's area of names.

@@ -77,6 +77,22 @@ fn the_example() {
 }
 
 #[test]
+fn many_at_once() {
+    let branch = Instruction { kind: BLTU, rd: 0, rs1: 5, rs2: 6, imm: -4 };
+    let shift = Instruction { kind: SRLIW, rd: 5, rs1: 5, rs2: 0, imm: 0 };
+    let calls = [lui().call(65536, FLAG), branch.call(65540, FLAG), shift.call(65544, FLAG), lui().call(65548, FLAG)];
+    let (mut one, mut all) = (start(), start());
+    assert_eq!(lent(&mut one).lower(lui(), 65536, FLAG), Ok(()));
+    assert_eq!(lent(&mut one).lower(branch, 65540, FLAG), Ok(()));
+    assert_eq!(lent(&mut all).lower_all(&calls), (2, Err(Refusal(4))));
+    assert_eq!((&all.list, &all.edges, all.state), (&one.list, &one.edges, one.state));
+    assert_eq!(lent(&mut all).lower_all(&calls[..2]), (2, Ok(())));
+    assert_eq!(lent(&mut all).lower_all(&[]), (0, Ok(())));
+    all.state[84] = 5000;
+    assert_eq!(lent(&mut all).lower_all(&calls), (0, Err(Refusal(13))));
+}
+
+#[test]
 fn an_indirect_jump() {
     let mut s = start();
     let mut l = lent(&mut s);
