@@ -7,7 +7,7 @@ use mathlib.Core.Path.{_≡_, refl, sym, ap, _∙_}
 use mathlib.Core.List.{List, [], _∷_, _++_, append-assoc}
 use borrow.Author.Tests.{lt-ltb, le-ltb}
 use Rattle.text.specs.Numeral.{glyph, numeral, decimalText}
-use Rattle.digits.specs.Pairs.{two, four}
+use Rattle.digits.specs.Pairs.{two, four, eight}
 use Rattle.digits.proofs.Length.{ten-to}
 
 -- more room for digits than a number has changes nothing
@@ -41,9 +41,19 @@ just-two x h l = sym (more 19 x h ∙ rw (← one 18 (x / 10) (omega arith)))
 pub before-two : (x : ℕ) → 100 ≤ x → x < 10000 → decimalText (x / 100) ++ two (x % 100) ≡ decimalText x
 before-two x h l = sym (two-more 18 x h ∙ rw (wider 17 2 (x / 100) (omega arith)))
 
-pub before-four : (x : ℕ) → 10000 ≤ x → x < 100000000 → decimalText (x / 10000) ++ four (x % 10000) ≡ decimalText x
-before-four x h l =
+four-more : (k x : ℕ) → 10000 ≤ x → numeral 10 (suc (suc (suc (suc k)))) x ≡ numeral 10 k (x / 10000) ++ four (x % 10000)
+four-more k x h =
     let a : x / 100 / 100 ≡ x / 10000 = omega arith in
     let b : x / 100 % 100 ≡ x % 10000 / 100 = omega arith in
     let d : x % 100 ≡ x % 10000 % 100 = omega arith in
-    sym (two-more 18 x (omega arith) ∙ rw (two-more 16 (x / 100) (omega arith), a, b, d, wider 15 4 (x / 10000) (omega arith)) (append-assoc (decimalText (x / 10000)) _ _))
+    two-more (suc (suc k)) x (omega arith) ∙ rw (two-more k (x / 100) (omega arith), a, b, d) (append-assoc (numeral 10 k (x / 10000)) _ _)
+
+pub before-four : (x : ℕ) → 10000 ≤ x → x < 100000000 → decimalText (x / 10000) ++ four (x % 10000) ≡ decimalText x
+before-four x h l = sym (four-more 16 x h ∙ rw (wider 15 4 (x / 10000) (omega arith)))
+
+pub before-eight : (x : ℕ) → 100000000 ≤ x → x < 100000000000000000000 → decimalText (x / 100000000) ++ eight (x % 100000000) ≡ decimalText x
+before-eight x h l =
+    let a : x / 10000 / 10000 ≡ x / 100000000 = omega arith in
+    let b : x / 10000 % 10000 ≡ x % 100000000 / 10000 = omega arith in
+    let d : x % 10000 ≡ x % 100000000 % 10000 = omega arith in
+    sym (four-more 16 x (omega arith) ∙ rw (four-more 12 (x / 10000) (omega arith), a, b, d, wider 11 8 (x / 100000000) (omega arith)) (append-assoc (decimalText (x / 100000000)) _ _))

@@ -5,7 +5,7 @@ ghost use Prim.Native.Nat.{_+_, _-_, _%_, _^_, _<_, _≤_, min};
 ghost use lib.ListN.{length};
 ghost use Rattle.text.specs.Numeral.{glyph, numeral, decimalText};
 ghost use Rattle.text.specs.Put.{Put};
-ghost use Rattle.digits.specs.Pairs.{two, four};
+ghost use Rattle.digits.specs.Pairs.{two, four, eight};
 
 // The largest place: past every slice.
 const LAST: usize = 18446744073709551615;
@@ -26,13 +26,46 @@ pub fn put_decimal(out: &mut [u8], at: usize, x: u64) -> usize
     if x < 100000000 {
         return put_eight(out, at, x as u32);
     }
-    put_tens(out, at, x, MOST)
+    put_long(out, at, x)
+}
+
+// More than eight digits, where there is room for them.
+fn put_long(out: &mut [u8], at: usize, x: u64) -> usize
+    requires { ⌜ (100000000 ≤ x) × (at + 20 ≤ length (now out)) ⌝ }
+    ensures { λ r. ⌜ Put (now (out .entry)) at (decimalText x) (now (out .exit)) r ⌝ }
+{
+    let p = put_twelve(out, at, x / 100000000);
+    let last = x % 100000000;
+    put_padded(out, p, last as u32)
+}
+
+// At most twelve digits, where there is room for them.
+fn put_twelve(out: &mut [u8], at: usize, x: u64) -> usize
+    requires { ⌜ (x < 1000000000000) × (at + 12 ≤ length (now out)) ⌝ }
+    ensures { λ r. ⌜ Put (now (out .entry)) at (decimalText x) (now (out .exit)) r × (r ≤ at + 12) ⌝ }
+{
+    if x < 100000000 {
+        return put_eight(out, at, x as u32);
+    }
+    let first = x / 100000000;
+    let last = x % 100000000;
+    let p = put_short(out, at, first as u32);
+    put_padded(out, p, last as u32)
+}
+
+// Eight digits, the first of which may be zeros.
+fn put_padded(out: &mut [u8], at: usize, x: u32) -> usize
+    requires { ⌜ (x < 100000000) × (at + 8 ≤ length (now out)) ⌝ }
+    ensures { λ r. ⌜ Put (now (out .entry)) at (eight x) (now (out .exit)) r × (r ≡ at + 8) ⌝ }
+{
+    let p = put_four(out, at, x / 10000);
+    put_four(out, p, x % 10000)
 }
 
 // At most eight digits, where there is room for them.
 fn put_eight(out: &mut [u8], at: usize, x: u32) -> usize
     requires { ⌜ (x < 100000000) × (at + 8 ≤ length (now out)) ⌝ }
-    ensures { λ r. ⌜ Put (now (out .entry)) at (decimalText x) (now (out .exit)) r ⌝ }
+    ensures { λ r. ⌜ Put (now (out .entry)) at (decimalText x) (now (out .exit)) r × (r ≤ at + 8) ⌝ }
 {
     if x < 10000 {
         return put_short(out, at, x);
@@ -68,7 +101,7 @@ fn put_pair(out: &mut [u8], at: usize, x: u32) -> usize
 // Four digits, the first of which may be zeros.
 fn put_four(out: &mut [u8], at: usize, x: u32) -> usize
     requires { ⌜ (x < 10000) × (at + 4 ≤ length (now out)) ⌝ }
-    ensures { λ r. ⌜ Put (now (out .entry)) at (four x) (now (out .exit)) r ⌝ }
+    ensures { λ r. ⌜ Put (now (out .entry)) at (four x) (now (out .exit)) r × (r ≡ at + 4) ⌝ }
 {
     let p = put_two(out, at, x / 100);
     put_two(out, p, x % 100)

@@ -28,6 +28,7 @@ use btor2_list::SUB;
 use btor2_list::ULT;
 use btor2_list::WRITE;
 use node_text::Row;
+use node_text::put_plain;
 use node_text::put_row;
 ghost use mathlib.Core.Path.{_≡_};
 ghost use mathlib.Core.Bool.{cond, true, false};
@@ -200,6 +201,9 @@ fn put_record<'a>(
     let first = pick(kind == BAD, a.0, sort);
     let second = pick(kind == CONST, imm, a.0);
     let third = pick(kind == EXT, padding(line.sort), b.0);
+    if n != 1 {
+        return put_plain(out, at, nid, k, n, first, second, third, c.0);
+    }
     let row = Row {
         nid,
         word: k,
@@ -208,7 +212,7 @@ fn put_record<'a>(
         b: second,
         c: third,
         d: c.0,
-        named: n == 1,
+        named: true,
     };
     let p = put_named(out, at, row, host, ours, line.name);
     if kind != STATE {
@@ -217,17 +221,8 @@ fn put_record<'a>(
     if imm == 0 {
         return p;
     }
-    let init = Row {
-        nid: std::num::wrapping_add_u64(nid, 1),
-        word: 0,
-        n: 3,
-        a: sort,
-        b: nid,
-        c: a.0,
-        d: 0,
-        named: false,
-    };
-    put_row(out, p, init, b"")
+    let next = std::num::wrapping_add_u64(nid, 1);
+    put_plain(out, p, next, 0, 3, sort, nid, a.0, 0)
 }
 
 // The identifier of the line at a place (unicorn's `get_nid`), 0 where there is none.

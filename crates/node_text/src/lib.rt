@@ -1,11 +1,13 @@
 // Rows of node lines as text: a row is an identifier, a word, some numbers and a name.
 ghost use mathlib.Core.Path.{_≡_};
-ghost use mathlib.Core.List.{[], _∷_};
+ghost use mathlib.Core.Bool.{false};
+ghost use mathlib.Core.List.{[], _∷_, _++_};
 ghost use Prim.Native.Nat.{_+_, _<_, _≤_};
 ghost use lib.ListN.{length, take, drop};
+ghost use Rattle.text.specs.Numeral.{decimalText};
 ghost use Rattle.text.specs.Put.{Put};
 ghost use Rattle.node_text.specs.Words.{word};
-ghost use Rattle.node_text.specs.Row.{fieldText, nameText, rowText};
+ghost use Rattle.node_text.specs.Row.{fieldText, nameText, numbersText, written, rowText};
 
 // How many words there are, and the bytes that each takes in the table.
 const WORDS: usize = 23;
@@ -176,15 +178,79 @@ pub struct Row {
 pub fn put_row(out: &mut [u8], at: usize, row: Row, name: &[u8]) -> usize
     ensures { λ r. ⌜ Put (now (out .entry)) at (rowText row (now (name .entry))) (now (out .exit)) r ⌝ }
 {
-    let word = row.word;
-    let n = row.n;
-    let p = digits::put_decimal(out, at, row.nid);
+    let p = put_numbers(
+        out,
+        at,
+        row.nid,
+        row.word,
+        row.n,
+        row.a,
+        row.b,
+        row.c,
+        row.d,
+    );
+    let q = put_name(out, p, row.named, name);
+    text::put_byte(out, q, 10)
+}
+
+// A line with no name.
+pub fn put_plain(
+    out: &mut [u8],
+    at: usize,
+    nid: u64,
+    k: usize,
+    n: u8,
+    a: u64,
+    b: u64,
+    c: u64,
+    d: u64,
+) -> usize
+    ensures { λ r. ⌜ Put (now (out .entry)) at (written nid (word k) (take n (a ∷ b ∷ c ∷ d ∷ [])) false []) (now (out .exit)) r ⌝ }
+{
+    let p = put_numbers(out, at, nid, k, n, a, b, c, d);
+    text::put_byte(out, p, 10)
+}
+
+// An identifier, a word, and the first n of four numbers.
+fn put_numbers(
+    out: &mut [u8],
+    at: usize,
+    nid: u64,
+    k: usize,
+    n: u8,
+    a: u64,
+    b: u64,
+    c: u64,
+    d: u64,
+) -> usize
+    ensures { λ r. ⌜ Put (now (out .entry)) at (decimalText nid ++ (32 ∷ []) ++ word k ++ numbersText (take n (a ∷ b ∷ c ∷ d ∷ []))) (now (out .exit)) r ⌝ }
+{
+    let p = digits::put_decimal(out, at, nid);
     let p0 = text::put_byte(out, p, 32);
-    let p1 = put_word(out, p0, word);
-    let p2 = put_field(out, p1, 0 < n, row.a);
-    let p3 = put_field(out, p2, 1 < n, row.b);
-    let p4 = put_field(out, p3, 2 < n, row.c);
-    let p5 = put_field(out, p4, 3 < n, row.d);
-    let p6 = put_name(out, p5, row.named, name);
-    text::put_byte(out, p6, 10)
+    let p1 = put_word(out, p0, k);
+    let p2 = put_sort(out, p1, 0 < n, a);
+    let p3 = put_field(out, p2, 1 < n, b);
+    let p4 = put_field(out, p3, 2 < n, c);
+    put_field(out, p4, 3 < n, d)
+}
+
+// The same as a field: most sorts are one digit.
+fn put_sort(out: &mut [u8], at: usize, on: bool, x: u64) -> usize
+    ensures { λ r. ⌜ Put (now (out .entry)) at (fieldText on x) (now (out .exit)) r ⌝ }
+{
+    if x < 10 {
+        return put_digit(out, at, on, x as u8);
+    }
+    put_field(out, at, on, x)
+}
+
+fn put_digit(out: &mut [u8], at: usize, on: bool, x: u8) -> usize
+    requires { ⌜ x < 10 ⌝ }
+    ensures { λ r. ⌜ Put (now (out .entry)) at (fieldText on x) (now (out .exit)) r ⌝ }
+{
+    if on {
+        let p = text::put_byte(out, at, 32);
+        return text::put_byte(out, p, 48 + x);
+    }
+    at
 }

@@ -12,7 +12,7 @@ returns-2 c =
     let p = q .before .before .before .before in
     let e = p .before .before in
     let a = e .before .before .args in
-    put-as (then (omega arith) (p .put-short2 .ensures .0) (q .put-four .ensures)) (before-four (a .x) (e .if1 .left) (omega arith))
+    (put-as (then (omega arith) (p .put-short2 .ensures .0) (q .put-four .ensures .0)) (before-four (a .x) (e .if1 .left) (omega arith)), omega arith)
 
 pub put-eight-spec : {M : Type 1} → statement M
 put-eight-spec =
