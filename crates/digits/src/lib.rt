@@ -18,15 +18,25 @@ pub fn put_decimal(out: &mut [u8], at: usize, x: u64) -> usize
 {
     let n = out.len();
     if n <= at {
-        return behind(at, decimal_len(x));
+        return put_tight(out, at, x);
     }
     if n - at < MOST {
-        return put_tens(out, at, x, MOST);
+        return put_tight(out, at, x);
     }
     if x < 100000000 {
         return put_eight(out, at, x as u32);
     }
     put_long(out, at, x)
+}
+
+// The same, where there may be no room.
+fn put_tight(out: &mut [u8], at: usize, x: u64) -> usize
+    ensures { λ r. ⌜ Put (now (out .entry)) at (decimalText x) (now (out .exit)) r ⌝ }
+{
+    if out.len() <= at {
+        return behind(at, decimal_len(x));
+    }
+    put_tens(out, at, x, MOST)
 }
 
 // More than eight digits, where there is room for them.
@@ -45,7 +55,7 @@ fn put_twelve(out: &mut [u8], at: usize, x: u64) -> usize
     ensures { λ r. ⌜ Put (now (out .entry)) at (decimalText x) (now (out .exit)) r × (r ≤ at + 12) ⌝ }
 {
     if x < 100000000 {
-        return put_eight(out, at, x as u32);
+        return put_tight(out, at, x);
     }
     let first = x / 100000000;
     let last = x % 100000000;

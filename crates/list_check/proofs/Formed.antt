@@ -39,7 +39,7 @@ neither : (a b : Bool) → (a || b) ≡ false → (a ≡ false) × (b ≡ false)
 neither true b e = absurd (true≢false e)
 neither false b e = (refl, e)
 
-seen-value : (nid : ℕ) (m : MaybeSort) → noValue (seenAs nid m) ≡ B.not (hasValue m)
+pub seen-value : (nid : ℕ) (m : MaybeSort) → noValue (seenAs nid m) ≡ B.not (hasValue m)
 seen-value nid (Sort s) = refl
 seen-value nid NoSort = refl
 

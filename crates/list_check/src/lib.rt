@@ -7,6 +7,8 @@ use btor2::get_sort;
 use btor2::sort_of;
 use btor2_list::ADD;
 use btor2_list::AND;
+use btor2_list::AT_KIND;
+use btor2_list::AT_SORT;
 use btor2_list::BAD;
 use btor2_list::CONST;
 use btor2_list::DIV;
@@ -17,7 +19,6 @@ use btor2_list::Found;
 use btor2_list::INPUT;
 use btor2_list::ITE;
 use btor2_list::Line;
-use btor2_list::Looked;
 use btor2_list::MUL;
 use btor2_list::NEXT;
 use btor2_list::NOT;
@@ -32,22 +33,22 @@ use btor2_list::SUB;
 use btor2_list::ULT;
 use btor2_list::WRITE;
 use btor2_list::get;
-use btor2_list::look;
 use btor2_name::HOST;
 use btor2_name::OURS;
 ghost use mathlib.Core.Path.{_≡_};
-ghost use mathlib.Core.Bool.{cond, true, _||_};
+ghost use mathlib.Core.Bool.{cond, true, not, _||_};
 ghost use lib.Dec.{eqb, ltb};
 ghost use mathlib.Core.List.{[], _∷_};
 ghost use Prim.Native.Nat.{_+_, _*_};
 ghost use Rattle.btor2.specs.declared.NodeType.the-variants.{Memory};
-ghost use Rattle.btor2.specs.Op.{state as stateOp, stateInit};
-ghost use Rattle.btor2.specs.Sort.{sameSort};
+ghost use Rattle.btor2.specs.Op.{state as stateOp, stateInit, carried};
+ghost use Rattle.btor2.specs.Sort.{sortNumbered, sameSort};
+ghost use Rattle.btor2_list.specs.declared.Line.{Line};
 ghost use Rattle.btor2_list.specs.Record.{stride, holds, lineAt};
 ghost use Rattle.btor2_list.specs.Node.{opOf};
 ghost use Rattle.list_check.specs.Operator.{opFrom};
 ghost use Rattle.list_check.specs.Lines.{any};
-ghost use Rattle.list_check.specs.Formed.{nameOutside, opUnformed, unformedWords};
+ghost use Rattle.list_check.specs.Formed.{nameOutside, hasValue, opUnformed, unformedWords};
 ghost use Rattle.list_check.specs.Operand.{noValueAt};
 
 // The operators on two words.
@@ -181,42 +182,145 @@ pub fn line_unformed(list: &[u64], i: usize, host: usize, ours: usize) -> bool
     ensures { λ r. ⌜ r ≡ cond (holds (now (list .entry)) i) (opUnformed host ours (noValueAt (now (list .entry)) i) (opOf (lineAt (now (list .entry)) (i * stride)))) true ⌝ }
 {
     match get(list, NodeRef(i)) {
-        Found::Line(line) => operator_unformed(list, i, host, ours, operator_of(line)),
+        Found::Line(line) => record_unformed(list, i, host, ours, line),
         Found::Outside => true,
     }
 }
 
-fn operator_unformed(list: &[u64], i: usize, host: usize, ours: usize, o: Operator) -> bool
-    ensures { λ r. ⌜ r ≡ opUnformed host ours (noValueAt (now (list .entry)) i) (opFrom o) ⌝ }
+// By the words of the record: what it says is not made.
+fn record_unformed(list: &[u64], i: usize, host: usize, ours: usize, line: Line) -> bool
+    ensures { λ r. ⌜ r ≡ opUnformed host ours (noValueAt (now (list .entry)) i) (opOf line) ⌝ }
 {
-    match o {
-        Operator::Const(_, _) => false,
-        Operator::Read(m, a) => two_out(list, i, m, a),
-        Operator::Write(m, a, v) => three_out(list, i, m, a, v),
-        Operator::Binary(_, a, b) => two_out(list, i, a, b),
-        Operator::Ext(s, a) => extended_out(list, i, s, a),
-        Operator::Ite(_, c, a, b) => three_out(list, i, c, a, b),
-        Operator::Eq(a, b) => two_out(list, i, a, b),
-        Operator::And(_, a, b) => two_out(list, i, a, b),
-        Operator::Or(_, a, b) => two_out(list, i, a, b),
-        Operator::Not(_, a) => no_value(list, i, a),
-        Operator::State(_, name) => name_outside(host, ours, name),
-        Operator::StateInit(_, a, name) => named_out(list, i, host, ours, name, a),
-        Operator::Next(_, a, b) => two_out(list, i, a, b),
-        Operator::Input(_, name) => name_outside(host, ours, name),
-        Operator::Bad(a, name) => named_out(list, i, host, ours, name, a),
-        Operator::Unknown => true,
+    let a = line.op1;
+    let b = line.op2;
+    let c = line.op3;
+    let name = line.name;
+    let kind = line.kind;
+    let sort = sort_of(line.sort);
+    match kind {
+        CONST => match sort {
+            MaybeSort::Sort(_) => false,
+            MaybeSort::NoSort => true,
+        },
+        READ => two_out(list, i, a, b),
+        WRITE => three_out(list, i, a, b, c),
+        ADD => two_out(list, i, a, b),
+        SUB => two_out(list, i, a, b),
+        MUL => two_out(list, i, a, b),
+        DIVU => two_out(list, i, a, b),
+        DIV => two_out(list, i, a, b),
+        REM => two_out(list, i, a, b),
+        SLL => two_out(list, i, a, b),
+        SRL => two_out(list, i, a, b),
+        ULT => two_out(list, i, a, b),
+        EXT => match sort {
+            MaybeSort::Sort(s) => extended_out(list, i, s, a),
+            MaybeSort::NoSort => true,
+        },
+        ITE => match sort {
+            MaybeSort::Sort(_) => three_out(list, i, a, b, c),
+            MaybeSort::NoSort => true,
+        },
+        EQ => two_out(list, i, a, b),
+        AND => match sort {
+            MaybeSort::Sort(_) => two_out(list, i, a, b),
+            MaybeSort::NoSort => true,
+        },
+        OR => match sort {
+            MaybeSort::Sort(_) => two_out(list, i, a, b),
+            MaybeSort::NoSort => true,
+        },
+        NOT => match sort {
+            MaybeSort::Sort(_) => no_value(list, i, a),
+            MaybeSort::NoSort => true,
+        },
+        STATE => match sort {
+            MaybeSort::Sort(_) => state_out(list, i, host, ours, name, line.imm, a),
+            MaybeSort::NoSort => true,
+        },
+        NEXT => match sort {
+            MaybeSort::Sort(_) => two_out(list, i, a, b),
+            MaybeSort::NoSort => true,
+        },
+        INPUT => match sort {
+            MaybeSort::Sort(_) => name_outside(host, ours, name),
+            MaybeSort::NoSort => true,
+        },
+        BAD => named_out(list, i, host, ours, name, a),
+        _ => true,
     }
+}
+
+// A State has an operand where the constant is not 0.
+fn state_out(
+    list: &[u64],
+    i: usize,
+    host: usize,
+    ours: usize,
+    name: Name,
+    imm: u64,
+    a: NodeRef,
+) -> bool
+    ensures { λ r. ⌜ r ≡ cond (eqb imm 0) (nameOutside host ours name) (nameOutside host ours name || any (noValueAt (now (list .entry)) i) (a .0 ∷ [])) ⌝ }
+{
+    if imm == 0 {
+        return name_outside(host, ours, name);
+    }
+    named_out(list, i, host, ours, name, a)
 }
 
 // The place is not that of a value line before line i.
 fn no_value(list: &[u64], i: usize, place: NodeRef) -> bool
     ensures { λ r. ⌜ r ≡ noValueAt (now (list .entry)) i (place .0) ⌝ }
 {
-    match look(list, i, place) {
-        Looked::Value(_, _) => false,
-        Looked::NoValue(_) => true,
-        Looked::Outside => true,
+    let q = place.0;
+    if i <= q {
+        return true;
+    }
+    if list.len() / STRIDE <= q {
+        return true;
+    }
+    let at = q * STRIDE;
+    valueless(list[at + AT_KIND], list[at + AT_SORT])
+}
+
+// Every record of this kind and sort carries no value.
+fn valueless(kind: u64, sort: u64) -> bool
+    ensures { λ r. ⌜ ((l : Line) → l .kind ≡ kind → l .sort ≡ sort → r ≡ not (hasValue (carried (opOf l)))) ⌝ }
+{
+    match kind {
+        CONST => no_sort(sort),
+        READ => false,
+        WRITE => false,
+        ADD => false,
+        SUB => false,
+        MUL => false,
+        DIVU => false,
+        DIV => false,
+        REM => false,
+        SLL => false,
+        SRL => false,
+        ULT => false,
+        EXT => no_sort(sort),
+        ITE => no_sort(sort),
+        EQ => false,
+        AND => no_sort(sort),
+        OR => no_sort(sort),
+        NOT => no_sort(sort),
+        STATE => no_sort(sort),
+        NEXT => true,
+        INPUT => no_sort(sort),
+        BAD => true,
+        _ => true,
+    }
+}
+
+fn no_sort(number: u64) -> bool
+    ensures { λ r. ⌜ r ≡ not (hasValue (sortNumbered number)) ⌝ }
+{
+    match sort_of(number) {
+        MaybeSort::Sort(_) => false,
+        MaybeSort::NoSort => true,
     }
 }
 

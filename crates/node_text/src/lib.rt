@@ -9,39 +9,29 @@ ghost use Rattle.text.specs.Put.{Put};
 ghost use Rattle.node_text.specs.Words.{word};
 ghost use Rattle.node_text.specs.Row.{fieldText, nameText, numbersText, written, rowText};
 
-// How many words there are, and the bytes that each takes in the table.
-const WORDS: usize = 23;
-
-const PADDED: usize = 6;
-
-fn word_len(k: usize) -> usize
-    requires { ⌜ k < 23 ⌝ }
-    ensures is { λ r. ⌜ r ≡ length (word k) ⌝ }
-    ensures most { λ r. ⌜ r ≤ 6 ⌝ }
-{
-    let lens =
-        b"\x04\x06\x04\x05\x03\x03\x03\x04\x04\x04\x03\x03\x03\x04\x03\x02\x03\x02\x03\x05\x04\x05\x03";
-    let n = lens[k];
-    n as usize
-}
+// The bytes of the longest word.
+const LONGEST: usize = 6;
 
 // The word of a number, nothing past the last.
 pub fn put_word(out: &mut [u8], at: usize, k: usize) -> usize
     ensures { λ r. ⌜ Put (now (out .entry)) at (word k) (now (out .exit)) r ⌝ }
 {
-    if WORDS <= k {
-        return at;
-    }
     let end = out.len();
     if at < end {
-        if PADDED <= end - at {
+        if LONGEST <= end - at {
             return put_word_in(out, at, k);
         }
     }
-    let letters =
-        b"init  constdread  write add   sub   mul   udiv  sdiv  urem  sll   srl   ult   uext  ite   eq    and   or    not   state next  input bad   ";
-    let n = word_len(k);
-    put_part(out, at, letters, PADDED * k, n)
+    put_word_tight(out, at, k)
+}
+
+// The same where there may be no room.
+fn put_word_tight(out: &mut [u8], at: usize, k: usize) -> usize
+    ensures { λ r. ⌜ Put (now (out .entry)) at (word k) (now (out .exit)) r ⌝ }
+{
+    let mut letters = [0u8; 6];
+    let n = put_word_in(&mut letters, 0, k);
+    text::put_bytes(out, at, &letters[..n])
 }
 
 // The same where there is room for the longest word: bytes that stand in the code, stored with no tests.
@@ -130,15 +120,6 @@ fn six(out: &mut [u8], at: usize, a: u8, b: u8, c: u8, d: u8, e: u8, f: u8) -> u
     out[at + 4] = e;
     out[at + 5] = f;
     at + 6
-}
-
-// The n bytes of s from a place on.
-fn put_part(out: &mut [u8], at: usize, s: &[u8], from: usize, n: usize) -> usize
-    requires { ⌜ from + n ≤ length (now s) ⌝ }
-    ensures { λ r. ⌜ Put (now (out .entry)) at (take n (drop from (now (s .entry)))) (now (out .exit)) r ⌝ }
-{
-    let e = from + n;
-    text::put_bytes(out, at, &s[from..e])
 }
 
 // A space and a number, where `on`.

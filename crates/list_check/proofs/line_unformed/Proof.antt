@@ -8,10 +8,10 @@ use Rattle.list_check.proofs.line_unformed.Tie as tie
 
 returns : tie.Need-returns
 returns c =
-    let g = c .before .before .before .before .before in
+    let g = c .before .before .before .before in
     let a = g .before .before .args in
-    let there = found (now (a .list)) (a .i) _ (sym (g .get .ensures) ∙ c .before .before .before .line .given .1) in
-    rw (there .0, there .1, ← c .before .operator-of .ensures) (c .operator-unformed .ensures)
+    let there = found (now (a .list)) (a .i) _ (sym (g .get .ensures) ∙ c .before .before .line .given .1) in
+    rw (there .0, there .1) (c .record-unformed .ensures)
 
 returns-2 : tie.Need-returns-2
 returns-2 c =
@@ -21,4 +21,4 @@ returns-2 c =
 pub line-unformed-spec : {M : Type 1} → statement M
 line-unformed-spec =
     tie.close
-    (tie.spec (λ c κs. search needs) (λ c. search needs) (λ c κs. search needs) (λ c κs. search needs) (λ c. search needs) returns returns-2)
+    (tie.spec (λ c κs. search needs) (λ c. search needs) (λ c κs. search needs) (λ c. search needs) returns returns-2)

@@ -5,8 +5,8 @@ use denote.Ref.{now}
 use borrow.Author.Needs.{needs}
 use Rattle.text.specs.Numeral.{decimalText}
 use Rattle.text.proofs.Laws.{sets-out}
-use Rattle.digits.proofs.put_decimal.Statement.{statement}
-use Rattle.digits.proofs.put_decimal.Tie as tie
+use Rattle.digits.proofs.put_tight.Statement.{statement}
+use Rattle.digits.proofs.put_tight.Tie as tie
 
 returns : tie.Need-returns
 returns c =
@@ -17,7 +17,5 @@ returns c =
       next = c .behind .ensures ∙ ap (λ (d : ℕ). min (a .at + d) (2 ^ 64 - 1)) (n .decimal-len .ensures);
     }
 
-pub put-decimal-spec : {M : Type 1} → statement M
-put-decimal-spec =
-    tie.close
-    (tie.spec (λ c κs. search needs) (λ c κs. search needs) returns (λ c. search needs) (λ c κs. search needs) (λ c. search needs) (λ c. search needs) (λ c. search needs) (λ c κs. search needs) (λ c. search needs) (λ c. search needs) (λ c κs. search needs) (λ c. search needs) (λ c. search needs))
+pub put-tight-spec : {M : Type 1} → statement M
+put-tight-spec = tie.close (tie.spec (λ c κs. search needs) (λ c κs. search needs) returns (λ c κs. search needs) (λ c. search needs) (λ c. search needs))
