@@ -40,7 +40,11 @@ ghost use Rattle.btor2.specs.declared.NodeType.{NodeType};
 ghost use Rattle.btor2.specs.declared.MaybeSort.the-variants.{Sort, NoSort};
 ghost use Rattle.btor2.specs.Op.{mapOp, unknown};
 ghost use Rattle.btor2_list.specs.Node.{opOf, nodeOf};
-ghost use Rattle.node_text.specs.Row.{rowText};
+ghost use mathlib.Core.List.{List, [], _∷_};
+ghost use Rattle.btor2.specs.declared.Name.{Name};
+ghost use Rattle.btor2_list.specs.declared.Line.{Line};
+ghost use Rattle.node_text.specs.Words.{word};
+ghost use Rattle.node_text.specs.Row.{rowText, written};
 ghost use Rattle.line_text.specs.Tables.{sorts, counts};
 ghost use Rattle.line_text.specs.Line.{lineText, printedName, nodes, nodeAt, nidAt, nodeText, runText};
 
@@ -239,6 +243,26 @@ pub fn nid_at(list: &[u64], lines: usize, place: NodeRef) -> Nid
     Nid(list[p * btor2_list::STRIDE])
 }
 
+// The sort of the kinds with two operands and a fixed sort, which half of all lines have; 0 for the others.
+fn binary_sort(kind: u64) -> u64
+    ensures { λ r. ⌜ ((r ≡ 0 → ⊥) → (l : Line) → (names : Name → List ℕ) → (f : ℕ → ℕ) → l .kind ≡ kind → written (l .nid .0) (word kind) (r ∷ f (l .op1 .0) ∷ f (l .op2 .0) ∷ []) false [] ≡ lineText names (l .nid .0) (mapOp f (opOf l))) ⌝ }
+{
+    match kind {
+        READ => 2,
+        ADD => 2,
+        SUB => 2,
+        MUL => 2,
+        DIVU => 2,
+        DIV => 2,
+        REM => 2,
+        SLL => 2,
+        SRL => 2,
+        ULT => 1,
+        EQ => 1,
+        _ => 0,
+    }
+}
+
 // A record of the list.
 fn put_found<'a>(
     out: &mut [u8],
@@ -251,6 +275,22 @@ fn put_found<'a>(
 ) -> usize
     ensures { λ r. ⌜ Put (now (out .entry)) at (nodeText (now (host .entry)) (now (ours .entry)) (nodes (now (list .entry)) lines) (nodeOf line)) (now (out .exit)) r ⌝ }
 {
+    let sort = binary_sort(line.kind);
+    if sort != 0 {
+        let x = nid_at(list, lines, line.op1);
+        let y = nid_at(list, lines, line.op2);
+        return put_plain(
+            out,
+            at,
+            line.nid.0,
+            line.kind as usize,
+            3,
+            sort,
+            x.0,
+            y.0,
+            0,
+        );
+    }
     if known(line) {
         let a = nid_at(list, lines, line.op1);
         let b = nid_at(list, lines, line.op2);

@@ -8,6 +8,8 @@ use btor2::sort_of;
 use btor2_list::ADD;
 use btor2_list::AND;
 use btor2_list::AT_KIND;
+use btor2_list::AT_OP1;
+use btor2_list::AT_OP2;
 use btor2_list::AT_SORT;
 use btor2_list::BAD;
 use btor2_list::CONST;
@@ -36,10 +38,10 @@ use btor2_list::get;
 use btor2_name::HOST;
 use btor2_name::OURS;
 ghost use mathlib.Core.Path.{_≡_};
-ghost use mathlib.Core.Bool.{cond, true, not, _||_};
+ghost use mathlib.Core.Bool.{Bool, cond, true, not, _||_};
 ghost use lib.Dec.{eqb, ltb};
 ghost use mathlib.Core.List.{[], _∷_};
-ghost use Prim.Native.Nat.{_+_, _*_};
+ghost use Prim.Native.Nat.{ℕ, _+_, _*_};
 ghost use Rattle.btor2.specs.declared.NodeType.the-variants.{Memory};
 ghost use Rattle.btor2.specs.Op.{state as stateOp, stateInit, carried};
 ghost use Rattle.btor2.specs.Sort.{sortNumbered, sameSort};
@@ -177,8 +179,43 @@ pub fn unformed(list: &[u64], lines: usize, host: usize, ours: usize) -> bool
     false
 }
 
-// The same of line i alone. True where the words do not hold it.
+// The same of line i alone. True where the words do not hold it. Half of all lines name two operands and have a fixed sort.
 pub fn line_unformed(list: &[u64], i: usize, host: usize, ours: usize) -> bool
+    ensures { λ r. ⌜ r ≡ cond (holds (now (list .entry)) i) (opUnformed host ours (noValueAt (now (list .entry)) i) (opOf (lineAt (now (list .entry)) (i * stride)))) true ⌝ }
+{
+    if list.len() / STRIDE <= i {
+        return true;
+    }
+    let at = i * STRIDE;
+    if binary(list[at + AT_KIND]) {
+        let a = list[at + AT_OP1] as usize;
+        let b = list[at + AT_OP2] as usize;
+        return two_out(list, i, NodeRef(a), NodeRef(b));
+    }
+    found_unformed(list, i, host, ours)
+}
+
+// A line of this kind has two operands and no sort of its own.
+fn binary(kind: u64) -> bool
+    ensures { λ r. ⌜ (r ≡ true → (l : Line) → (host ours : ℕ) → (out : ℕ → Bool) → l .kind ≡ kind → opUnformed host ours out (opOf l) ≡ any out (l .op1 .0 ∷ l .op2 .0 ∷ [])) ⌝ }
+{
+    match kind {
+        READ => true,
+        ADD => true,
+        SUB => true,
+        MUL => true,
+        DIVU => true,
+        DIV => true,
+        REM => true,
+        SLL => true,
+        SRL => true,
+        ULT => true,
+        EQ => true,
+        _ => false,
+    }
+}
+
+fn found_unformed(list: &[u64], i: usize, host: usize, ours: usize) -> bool
     ensures { λ r. ⌜ r ≡ cond (holds (now (list .entry)) i) (opUnformed host ours (noValueAt (now (list .entry)) i) (opOf (lineAt (now (list .entry)) (i * stride)))) true ⌝ }
 {
     match get(list, NodeRef(i)) {
@@ -281,7 +318,53 @@ fn no_value(list: &[u64], i: usize, place: NodeRef) -> bool
         return true;
     }
     let at = q * STRIDE;
-    valueless(list[at + AT_KIND], list[at + AT_SORT])
+    let kind = list[at + AT_KIND];
+    if fixed(kind) {
+        return false;
+    }
+    let sort = list[at + AT_SORT];
+    if sorted(kind) {
+        return no_sort(sort);
+    }
+    valueless(kind, sort)
+}
+
+// A line of this kind carries a value, of a fixed sort.
+fn fixed(kind: u64) -> bool
+    ensures { λ r. ⌜ (r ≡ true → (l : Line) → l .kind ≡ kind → hasValue (carried (opOf l)) ≡ true) ⌝ }
+{
+    match kind {
+        READ => true,
+        WRITE => true,
+        ADD => true,
+        SUB => true,
+        MUL => true,
+        DIVU => true,
+        DIV => true,
+        REM => true,
+        SLL => true,
+        SRL => true,
+        ULT => true,
+        EQ => true,
+        _ => false,
+    }
+}
+
+// A line of this kind carries a value where its own sort is known.
+fn sorted(kind: u64) -> bool
+    ensures { λ r. ⌜ (r ≡ true → (l : Line) → l .kind ≡ kind → hasValue (carried (opOf l)) ≡ hasValue (sortNumbered (l .sort))) ⌝ }
+{
+    match kind {
+        CONST => true,
+        EXT => true,
+        ITE => true,
+        AND => true,
+        OR => true,
+        NOT => true,
+        STATE => true,
+        INPUT => true,
+        _ => false,
+    }
 }
 
 // Every record of this kind and sort carries no value.

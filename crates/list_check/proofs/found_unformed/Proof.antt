@@ -1,0 +1,24 @@
+-- A record that the words hold is read and tested. Assumes nothing.
+use mathlib.Core.Path.{_≡_, refl, sym, _∙_}
+use denote.Ref.{now}
+use borrow.Author.Needs.{needs}
+use Rattle.list_check.proofs.Found.{found, not-found}
+use Rattle.list_check.proofs.found_unformed.Statement.{statement}
+use Rattle.list_check.proofs.found_unformed.Tie as tie
+
+returns : tie.Need-returns
+returns c =
+    let g = c .before .before .before .before in
+    let a = g .before .before .args in
+    let there = found (now (a .list)) (a .i) _ (sym (g .get .ensures) ∙ c .before .before .line .given .1) in
+    rw (there .0, there .1) (c .record-unformed .ensures)
+
+returns-2 : tie.Need-returns-2
+returns-2 c =
+    let a = c .before .before .before .before .args in
+    rw (not-found (now (a .list)) (a .i) (sym (c .before .before .get .ensures) ∙ c .enum-told .given .1))
+
+pub found-unformed-spec : {M : Type 1} → statement M
+found-unformed-spec =
+    tie.close
+    (tie.spec (λ c κs. search needs) (λ c. search needs) (λ c κs. search needs) (λ c. search needs) returns returns-2)
