@@ -16,7 +16,7 @@ use Rattle.btor2.specs.Sort.{sortNumber, firstNumbered, sortNumbered, width}
 use Rattle.btor2.specs.Op.{Op, unknown, mapOp}
 use Rattle.btor2_list.specs.declared.Line.{Line}
 use Rattle.btor2_list.specs.Node.{withSort, opOf}
-use Rattle.node_text.specs.Words.{word}
+use Rattle.word_text.specs.Words.{word}
 use Rattle.node_text.specs.Row.{written}
 use Rattle.line_text.specs.Line.{lineText}
 use Rattle.line_text.specs.Tables.{sorts, counts}

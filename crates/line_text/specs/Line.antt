@@ -12,7 +12,7 @@ use Rattle.btor2_list.specs.Record.{stride}
 use Rattle.btor2_list.specs.Node.{Node, node}
 use Rattle.btor2_list.specs.View.{view}
 use Rattle.btor2_name.specs.NameBytes.{nameBytes}
-use Rattle.node_text.specs.Words.{ascii}
+use Rattle.word_text.specs.Words.{ascii}
 use Rattle.node_text.specs.Row.{written}
 
 -- ---- a line whose operands are identifiers

@@ -43,7 +43,7 @@ ghost use Rattle.btor2_list.specs.Node.{opOf, nodeOf};
 ghost use mathlib.Core.List.{List, [], _∷_};
 ghost use Rattle.btor2.specs.declared.Name.{Name};
 ghost use Rattle.btor2_list.specs.declared.Line.{Line};
-ghost use Rattle.node_text.specs.Words.{word};
+ghost use Rattle.word_text.specs.Words.{word};
 ghost use Rattle.node_text.specs.Row.{rowText, written};
 ghost use Rattle.line_text.specs.Tables.{sorts, counts};
 ghost use Rattle.line_text.specs.Line.{lineText, printedName, nodes, nodeAt, nidAt, nodeText, runText};

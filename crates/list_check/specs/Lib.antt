@@ -1,4 +1,3 @@
 pub mod Lines
-pub mod Operator
 pub mod Formed
 pub mod Operand

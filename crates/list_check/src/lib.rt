@@ -1,4 +1,4 @@
-// What a record says, and the checks over a whole list of lines.
+// The checks over a whole list of lines: refusal 11.
 use btor2::MaybeSort;
 use btor2::Name;
 use btor2::NodeRef;
@@ -43,123 +43,14 @@ ghost use lib.Dec.{eqb, ltb};
 ghost use mathlib.Core.List.{[], _∷_};
 ghost use Prim.Native.Nat.{ℕ, _+_, _*_};
 ghost use Rattle.btor2.specs.declared.NodeType.the-variants.{Memory};
-ghost use Rattle.btor2.specs.Op.{state as stateOp, stateInit, carried};
+ghost use Rattle.btor2.specs.Op.{carried};
 ghost use Rattle.btor2.specs.Sort.{sortNumbered, sameSort};
 ghost use Rattle.btor2_list.specs.declared.Line.{Line};
 ghost use Rattle.btor2_list.specs.Record.{stride, holds, lineAt};
 ghost use Rattle.btor2_list.specs.Node.{opOf};
-ghost use Rattle.list_check.specs.Operator.{opFrom};
 ghost use Rattle.list_check.specs.Lines.{any};
 ghost use Rattle.list_check.specs.Formed.{nameOutside, hasValue, opUnformed, unformedWords};
 ghost use Rattle.list_check.specs.Operand.{noValueAt};
-
-// The operators on two words.
-pub enum Bin {
-    Add,
-    Sub,
-    Mul,
-    Divu,
-    Div,
-    Rem,
-    Sll,
-    Srl,
-    Ult,
-}
-
-// What a record says, with the fields that its kind uses: one of unicorn's `Node`, a State with an init apart, or a record of no known kind
-// or sort.
-pub enum Operator {
-    Const(NodeType, u64),
-    Read(NodeRef, NodeRef),
-    Write(NodeRef, NodeRef, NodeRef),
-    Binary(Bin, NodeRef, NodeRef),
-    Ext(NodeType, NodeRef),
-    Ite(NodeType, NodeRef, NodeRef, NodeRef),
-    Eq(NodeRef, NodeRef),
-    And(NodeType, NodeRef, NodeRef),
-    Or(NodeType, NodeRef, NodeRef),
-    Not(NodeType, NodeRef),
-    State(NodeType, Name),
-    StateInit(NodeType, NodeRef, Name),
-    Next(NodeType, NodeRef, NodeRef),
-    Input(NodeType, Name),
-    Bad(NodeRef, Name),
-    Unknown,
-}
-
-// What a record says.
-pub fn operator_of(line: Line) -> Operator
-    ensures { λ r. ⌜ opFrom r ≡ opOf line ⌝ }
-{
-    let a = line.op1;
-    let b = line.op2;
-    let c = line.op3;
-    let name = line.name;
-    let kind = line.kind;
-    let sort = sort_of(line.sort);
-    match kind {
-        CONST => match sort {
-            MaybeSort::Sort(s) => Operator::Const(s, line.imm),
-            MaybeSort::NoSort => Operator::Unknown,
-        },
-        READ => Operator::Read(a, b),
-        WRITE => Operator::Write(a, b, c),
-        ADD => Operator::Binary(Bin::Add, a, b),
-        SUB => Operator::Binary(Bin::Sub, a, b),
-        MUL => Operator::Binary(Bin::Mul, a, b),
-        DIVU => Operator::Binary(Bin::Divu, a, b),
-        DIV => Operator::Binary(Bin::Div, a, b),
-        REM => Operator::Binary(Bin::Rem, a, b),
-        SLL => Operator::Binary(Bin::Sll, a, b),
-        SRL => Operator::Binary(Bin::Srl, a, b),
-        ULT => Operator::Binary(Bin::Ult, a, b),
-        EXT => match sort {
-            MaybeSort::Sort(s) => Operator::Ext(s, a),
-            MaybeSort::NoSort => Operator::Unknown,
-        },
-        ITE => match sort {
-            MaybeSort::Sort(s) => Operator::Ite(s, a, b, c),
-            MaybeSort::NoSort => Operator::Unknown,
-        },
-        EQ => Operator::Eq(a, b),
-        AND => match sort {
-            MaybeSort::Sort(s) => Operator::And(s, a, b),
-            MaybeSort::NoSort => Operator::Unknown,
-        },
-        OR => match sort {
-            MaybeSort::Sort(s) => Operator::Or(s, a, b),
-            MaybeSort::NoSort => Operator::Unknown,
-        },
-        NOT => match sort {
-            MaybeSort::Sort(s) => Operator::Not(s, a),
-            MaybeSort::NoSort => Operator::Unknown,
-        },
-        STATE => match sort {
-            MaybeSort::Sort(s) => state(s, line.imm, a, name),
-            MaybeSort::NoSort => Operator::Unknown,
-        },
-        NEXT => match sort {
-            MaybeSort::Sort(s) => Operator::Next(s, a, b),
-            MaybeSort::NoSort => Operator::Unknown,
-        },
-        INPUT => match sort {
-            MaybeSort::Sort(s) => Operator::Input(s, name),
-            MaybeSort::NoSort => Operator::Unknown,
-        },
-        BAD => Operator::Bad(a, name),
-        _ => Operator::Unknown,
-    }
-}
-
-// A State, with an init where the constant is not 0.
-fn state(s: NodeType, imm: u64, init: NodeRef, name: Name) -> Operator
-    ensures { λ r. ⌜ opFrom r ≡ cond (eqb imm 0) (stateOp s name) (stateInit s (init .0) name) ⌝ }
-{
-    if imm == 0 {
-        return Operator::State(s, name);
-    }
-    Operator::StateInit(s, init, name)
-}
 
 // 11: some line has an unknown kind or sort, extends a Memory, names an operand that is no earlier value line, or has a name outside its
 // area. `host` and `ours` are the lengths of the two areas. True where the words do not hold as many lines.

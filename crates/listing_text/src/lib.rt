@@ -3,7 +3,7 @@ use btor2::NodeRef;
 use line_text::nid_at;
 ghost use mathlib.Core.Path.{_≡_};
 ghost use Rattle.line_text.specs.Line.{nodes};
-ghost use Rattle.node_text.specs.Words.{ascii};
+ghost use Rattle.word_text.specs.Words.{ascii};
 ghost use Rattle.text.specs.Put.{Put};
 ghost use Rattle.listing_text.specs.Remarks.{originWord, conditionText, edgeText, dispatchText, refusedText, edgeAt, edgesText, dispatchAt, dispatchesText};
 

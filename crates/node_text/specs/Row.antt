@@ -5,7 +5,7 @@ use mathlib.Core.List.{List, [], _∷_, _++_}
 use lib.ListN.{take}
 use Rattle.text.specs.Numeral.{decimalText}
 use Rattle.node_text.specs.declared.Row.{Row}
-use Rattle.node_text.specs.Words.{word}
+use Rattle.word_text.specs.Words.{word}
 
 abbrev space : List ℕ
 space = 32 ∷ []

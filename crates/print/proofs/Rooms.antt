@@ -23,7 +23,7 @@ use Rattle.btor2.specs.Op.{Bin, add, sub, mul, udiv, sdiv, urem, sll, srl, ult,
 use Rattle.btor2_list.specs.declared.Line.{Line}
 use Rattle.btor2_list.specs.Record.{stride, lineAt}
 use Rattle.btor2_list.specs.Node.{Node, withSort, opOf}
-use Rattle.node_text.specs.Words.{ascii}
+use Rattle.word_text.specs.Words.{ascii}
 use Rattle.node_text.specs.Row.{nameText, numbersText, written}
 use Rattle.line_text.specs.Line.{binWord, lineText, printedName, nodes, nodeAt, nidAt, nodeText, runText}
 use Rattle.line_text.proofs.Each.{Each, none, _▹_, at}

@@ -2,7 +2,7 @@
 use mathlib.Core.Path.{sym}
 use native.Mathlib.Omega.{arith}
 use lib.ListN.{List·getD-eq-default}
-use Rattle.node_text.proofs.Table.{beyond}
+use Rattle.word_text.proofs.Table.{beyond}
 use Rattle.line_text.specs.Tables.{counts}
 use borrow.Author.Needs.{needs}
 use Rattle.line_text.proofs.numbers.Statement.{statement}

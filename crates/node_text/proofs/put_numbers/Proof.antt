@@ -2,7 +2,7 @@
 use mathlib.Core.List.{[], _∷_, _++_}
 use Rattle.text.proofs.Laws.{then, put-as}
 use Rattle.text.specs.Numeral.{decimalText}
-use Rattle.node_text.specs.Words.{word}
+use Rattle.word_text.specs.Words.{word}
 use Rattle.node_text.proofs.Numbers.{fields}
 use borrow.Author.Needs.{needs}
 use Rattle.node_text.proofs.put_numbers.Statement.{statement}

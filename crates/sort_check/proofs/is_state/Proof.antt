@@ -7,10 +7,10 @@ use borrow.Author.Needs.{needs}
 use denote.Enum.Declared.{tagOf}
 use types.Run.{OneOf, miss}
 use Rattle.btor2.specs.SortRule.{isStateOp}
-use Rattle.list_check.proofs.Operator.{the-type}
-use Rattle.list_check.specs.declared.Operator.{Operator}
-use Rattle.list_check.specs.declared.Operator.the-variants.{Const, Read, Write, Binary, Ext, Ite, Eq, And, Or, Not, State, StateInit, Next, Input, Bad, Unknown}
-use Rattle.list_check.specs.Operator.{opFrom}
+use Rattle.line_operator.proofs.Operator.{the-type}
+use Rattle.line_operator.specs.declared.Operator.{Operator}
+use Rattle.line_operator.specs.declared.Operator.the-variants.{Const, Read, Write, Binary, Ext, Ite, Eq, And, Or, Not, State, StateInit, Next, Input, Bad, Unknown}
+use Rattle.line_operator.specs.Operator.{opFrom}
 use Rattle.sort_check.proofs.is_state.Statement.{statement}
 use Rattle.sort_check.proofs.is_state.Tie as tie
 

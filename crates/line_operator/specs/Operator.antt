@@ -1,10 +1,10 @@
 -- The code's operators, as those of the definitions.
 use Prim.Native.Nat.{ℕ}
 use Rattle.btor2.specs.Op as O
-use Rattle.list_check.specs.declared.Bin.{Bin}
-use Rattle.list_check.specs.declared.Bin.the-variants.{Add, Sub, Mul, Divu, Div, Rem, Sll, Srl, Ult}
-use Rattle.list_check.specs.declared.Operator.{Operator}
-use Rattle.list_check.specs.declared.Operator.the-variants.{Const, Read, Write, Binary, Ext, Ite, Eq, And, Or, Not, State, StateInit, Next, Input, Bad, Unknown}
+use Rattle.line_operator.specs.declared.Bin.{Bin}
+use Rattle.line_operator.specs.declared.Bin.the-variants.{Add, Sub, Mul, Divu, Div, Rem, Sll, Srl, Ult}
+use Rattle.line_operator.specs.declared.Operator.{Operator}
+use Rattle.line_operator.specs.declared.Operator.the-variants.{Const, Read, Write, Binary, Ext, Ite, Eq, And, Or, Not, State, StateInit, Next, Input, Bad, Unknown}
 
 abbrev pub binFrom : Bin → O.Bin
 binFrom Add = O.add

@@ -1,10 +1,10 @@
 -- The word in an array of its own, and from there. Assumes nothing.
 use native.Mathlib.Omega.{arith}
 use Rattle.text.proofs.Laws.{put-as, put-length}
-use Rattle.node_text.proofs.Table.{longest, read-back}
+use Rattle.word_text.proofs.Table.{longest, read-back}
 use borrow.Author.Needs.{needs}
-use Rattle.node_text.proofs.put_word_tight.Statement.{statement}
-use Rattle.node_text.proofs.put_word_tight.Tie as tie
+use Rattle.word_text.proofs.put_word_tight.Statement.{statement}
+use Rattle.word_text.proofs.put_word_tight.Tie as tie
 
 array-share-prefix-letters : tie.Need-array-share-prefix-letters
 array-share-prefix-letters c =

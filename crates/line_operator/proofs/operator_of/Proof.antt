@@ -2,8 +2,8 @@
 use borrow.Author.Tests.{ne-eqb}
 use Rattle.btor2_list.specs.Node.{opOf}
 use borrow.Author.Needs.{needs}
-use Rattle.list_check.proofs.operator_of.Statement.{statement}
-use Rattle.list_check.proofs.operator_of.Tie as tie
+use Rattle.line_operator.proofs.operator_of.Statement.{statement}
+use Rattle.line_operator.proofs.operator_of.Tie as tie
 
 returns : tie.Need-returns
 unfolding opOf

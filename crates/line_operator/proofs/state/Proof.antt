@@ -1,7 +1,7 @@
 -- An init is there where the constant is not 0. Assumes nothing.
 use borrow.Author.Tests.{eq-eqb, ne-eqb}
-use Rattle.list_check.proofs.state.Statement.{statement}
-use Rattle.list_check.proofs.state.Tie as tie
+use Rattle.line_operator.proofs.state.Statement.{statement}
+use Rattle.line_operator.proofs.state.Tie as tie
 
 returns : tie.Need-returns
 returns c = rw (eq-eqb _ _ (c .if1 .taken))

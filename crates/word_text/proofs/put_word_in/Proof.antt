@@ -2,10 +2,10 @@
 use mathlib.Core.Path.{refl, sym}
 use native.Mathlib.Omega.{arith}
 use Rattle.text.proofs.Laws.{put-as}
-use Rattle.node_text.proofs.Table.{past, beyond}
+use Rattle.word_text.proofs.Table.{past, beyond}
 use borrow.Author.Needs.{needs}
-use Rattle.node_text.proofs.put_word_in.Statement.{statement}
-use Rattle.node_text.proofs.put_word_in.Tie as tie
+use Rattle.word_text.proofs.put_word_in.Statement.{statement}
+use Rattle.word_text.proofs.put_word_in.Tie as tie
 
 returns : tie.Need-returns
 returns c = rw (c .before .before .before .before .match .keys1) (c .before .before .four .ensures)

@@ -11,7 +11,7 @@ use lib.Seq.{take-append-seam}
 use Rattle.bitvec.proofs.Below.{at}
 use Rattle.text.specs.Put.{Put}
 use Rattle.text.proofs.Laws.{put-is}
-use Rattle.node_text.specs.Words.{ascii, words, word}
+use Rattle.word_text.specs.Words.{ascii, words, word}
 
 pub past : (k : ℕ) → 23 ≤ k → word k ≡ []
 past k h = ap ascii (List·getD-eq-default words "" h)

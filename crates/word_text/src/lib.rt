@@ -1,0 +1,119 @@
+// The words of node lines as text.
+ghost use mathlib.Core.List.{[], _∷_};
+ghost use Prim.Native.Nat.{_+_, _<_, _≤_};
+ghost use lib.ListN.{length};
+ghost use Rattle.text.specs.Put.{Put};
+ghost use Rattle.word_text.specs.Words.{word};
+
+// The bytes of the longest word.
+const LONGEST: usize = 6;
+
+// The word of a number, nothing past the last.
+pub fn put_word(out: &mut [u8], at: usize, k: usize) -> usize
+    ensures { λ r. ⌜ Put (now (out .entry)) at (word k) (now (out .exit)) r ⌝ }
+{
+    let end = out.len();
+    if at < end {
+        if LONGEST <= end - at {
+            return put_word_in(out, at, k);
+        }
+    }
+    put_word_tight(out, at, k)
+}
+
+// The same where there may be no room.
+fn put_word_tight(out: &mut [u8], at: usize, k: usize) -> usize
+    ensures { λ r. ⌜ Put (now (out .entry)) at (word k) (now (out .exit)) r ⌝ }
+{
+    let mut letters = [0u8; 6];
+    let n = put_word_in(&mut letters, 0, k);
+    text::put_bytes(out, at, &letters[..n])
+}
+
+// The same where there is room for the longest word: bytes that stand in the code, stored with no tests.
+fn put_word_in(out: &mut [u8], at: usize, k: usize) -> usize
+    requires { ⌜ at + 6 ≤ length (now out) ⌝ }
+    ensures { λ r. ⌜ Put (now (out .entry)) at (word k) (now (out .exit)) r ⌝ }
+{
+    match k {
+        0 => four(out, at, b'i', b'n', b'i', b't'),
+        1 => six(out, at, b'c', b'o', b'n', b's', b't', b'd'),
+        2 => four(out, at, b'r', b'e', b'a', b'd'),
+        3 => five(out, at, b'w', b'r', b'i', b't', b'e'),
+        4 => three(out, at, b'a', b'd', b'd'),
+        5 => three(out, at, b's', b'u', b'b'),
+        6 => three(out, at, b'm', b'u', b'l'),
+        7 => four(out, at, b'u', b'd', b'i', b'v'),
+        8 => four(out, at, b's', b'd', b'i', b'v'),
+        9 => four(out, at, b'u', b'r', b'e', b'm'),
+        10 => three(out, at, b's', b'l', b'l'),
+        11 => three(out, at, b's', b'r', b'l'),
+        12 => three(out, at, b'u', b'l', b't'),
+        13 => four(out, at, b'u', b'e', b'x', b't'),
+        14 => three(out, at, b'i', b't', b'e'),
+        15 => two(out, at, b'e', b'q'),
+        16 => three(out, at, b'a', b'n', b'd'),
+        17 => two(out, at, b'o', b'r'),
+        18 => three(out, at, b'n', b'o', b't'),
+        19 => five(out, at, b's', b't', b'a', b't', b'e'),
+        20 => four(out, at, b'n', b'e', b'x', b't'),
+        21 => five(out, at, b'i', b'n', b'p', b'u', b't'),
+        22 => three(out, at, b'b', b'a', b'd'),
+        _ => at,
+    }
+}
+
+fn two(out: &mut [u8], at: usize, a: u8, b: u8) -> usize
+    requires { ⌜ at + 2 ≤ length (now out) ⌝ }
+    ensures { λ r. ⌜ Put (now (out .entry)) at (a ∷ b ∷ []) (now (out .exit)) r ⌝ }
+{
+    out[at] = a;
+    out[at + 1] = b;
+    at + 2
+}
+
+fn three(out: &mut [u8], at: usize, a: u8, b: u8, c: u8) -> usize
+    requires { ⌜ at + 3 ≤ length (now out) ⌝ }
+    ensures { λ r. ⌜ Put (now (out .entry)) at (a ∷ b ∷ c ∷ []) (now (out .exit)) r ⌝ }
+{
+    out[at] = a;
+    out[at + 1] = b;
+    out[at + 2] = c;
+    at + 3
+}
+
+fn four(out: &mut [u8], at: usize, a: u8, b: u8, c: u8, d: u8) -> usize
+    requires { ⌜ at + 4 ≤ length (now out) ⌝ }
+    ensures { λ r. ⌜ Put (now (out .entry)) at (a ∷ b ∷ c ∷ d ∷ []) (now (out .exit)) r ⌝ }
+{
+    out[at] = a;
+    out[at + 1] = b;
+    out[at + 2] = c;
+    out[at + 3] = d;
+    at + 4
+}
+
+fn five(out: &mut [u8], at: usize, a: u8, b: u8, c: u8, d: u8, e: u8) -> usize
+    requires { ⌜ at + 5 ≤ length (now out) ⌝ }
+    ensures { λ r. ⌜ Put (now (out .entry)) at (a ∷ b ∷ c ∷ d ∷ e ∷ []) (now (out .exit)) r ⌝ }
+{
+    out[at] = a;
+    out[at + 1] = b;
+    out[at + 2] = c;
+    out[at + 3] = d;
+    out[at + 4] = e;
+    at + 5
+}
+
+fn six(out: &mut [u8], at: usize, a: u8, b: u8, c: u8, d: u8, e: u8, f: u8) -> usize
+    requires { ⌜ at + 6 ≤ length (now out) ⌝ }
+    ensures { λ r. ⌜ Put (now (out .entry)) at (a ∷ b ∷ c ∷ d ∷ e ∷ f ∷ []) (now (out .exit)) r ⌝ }
+{
+    out[at] = a;
+    out[at + 1] = b;
+    out[at + 2] = c;
+    out[at + 3] = d;
+    out[at + 4] = e;
+    out[at + 5] = f;
+    at + 6
+}
