@@ -1,17 +1,14 @@
--- A state's words read and written one by one, and that words which were read and not changed are the same words. Assumes nothing.
-use Prim.Native.Nat.{ℕ, zero, suc, _+_, _≤_, _<_}
-use native.Mathlib.Nat.{add-zero, add-suc, zero-add, le-of-lt}
+-- A state's words read one by one. Assumes nothing.
+use Prim.Native.Nat.{ℕ, suc, _+_, _≤_, _<_}
+use native.Mathlib.Nat.{le-of-lt}
 use native.Mathlib.Numerals.{add-one}
 use native.Mathlib.Omega.{arith}
 use mathlib.Core.Path.{_≡_, refl, sym, ap, _∙_}
-use mathlib.Core.List.{List, [], _∷_, _++_, map, append-nil}
+use mathlib.Core.List.{List, _++_, map, append-nil}
 use lib.ListN.{length, getD, set, take, drop, length-drop, drop-of-length-le, length-map, List·getD-map}
-use lib.Seq.{getD-drop, drop-cons, set-at, append-snoc, take-suc, take-all, length-take-le, sets, paste, paste-suc}
+use lib.Seq.{getD-drop, drop-cons, set-at, append-snoc, take-suc, length-take-le}
 use Rattle.btor2.specs.declared.NodeRef.{NodeRef}
-use Rattle.lowering_refusals.specs.declared.State.{State}
-use Rattle.host.specs.Host.{role, place, rolesIn, stateIn, stateOut, withRoles, withState}
-
--- ---- reading
+use Rattle.lowering.specs.Words.{role, rolesIn}
 
 -- the first k of s, stored over the front of d
 abbrev pub front : {A : Type 0} → List A → List A → ℕ → List A
@@ -36,50 +33,3 @@ pub roles-read : (ws : List ℕ) (d : List NodeRef) (k : ℕ) → k ≡ 79 → l
 unfolding rolesIn
 roles-read ws d k h hd =
     ap (front (map role (drop 6 ws)) d) h ∙ ap (λ r. take 79 (map role (drop 6 ws)) ++ r) (drop-of-length-le d {i = 79} (omega arith)) ∙ append-nil (take 79 (map role (drop 6 ws)))
-
--- ---- writing
-
-pub role-written : (ws : List ℕ) (roles : List NodeRef) (k : ℕ) → k < 79 → 85 ≤ length ws → length roles ≡ 79
-    → set (paste ws 6 (map place roles) k) (6 + k) (place (getD roles k (role 0))) ≡ paste ws 6 (map place roles) (k + 1)
-role-written ws roles k h hw hr =
-    ap (λ x. set (paste ws 6 (map place roles) k) (6 + k) x) (sym (List·getD-map place roles k (role 0)))
-    ∙ paste-suc ws 6 (map place roles) k 0 (omega arith) (omega (arith, length-map roles place))
-    ∙ ap (paste ws 6 (map place roles)) (sym (add-one k))
-
-pub roles-written : (ws : List ℕ) (roles : List NodeRef) (k : ℕ) → k ≡ 79 → length roles ≡ 79 → paste ws 6 (map place roles) k ≡ withRoles ws roles
-unfolding withRoles
-roles-written ws roles k h hr =
-    ap (paste ws 6 (map place roles)) h ∙ ap (λ r. take 6 ws ++ r ++ drop 85 ws) (take-all 79 (map place roles) (omega (arith, length-map roles place)))
-
--- six words, and the roles behind them
-abbrev pub counted : State → List ℕ
-counted s = s .tally .lines ∷ s .tally .nid ∷ s .counts .names ∷ s .counts .edges ∷ s .counts .dispatches ∷ s .counts .bads ∷ []
-
-pub state-written : (ws : List ℕ) (s : State) → 85 ≤ length ws
-    → withRoles (sets ws 0 (counted s)) (s .roles) ≡ withState ws s
-unfolding withRoles stateOut withState
-state-written (a ∷ b ∷ c ∷ d ∷ e ∷ f ∷ ws) s h = refl
-state-written (a ∷ b ∷ c ∷ d ∷ e ∷ []) s h = absurd (omega arith)
-state-written (a ∷ b ∷ c ∷ d ∷ []) s h = absurd (omega arith)
-state-written (a ∷ b ∷ c ∷ []) s h = absurd (omega arith)
-state-written (a ∷ b ∷ []) s h = absurd (omega arith)
-state-written (a ∷ []) s h = absurd (omega arith)
-state-written [] s h = absurd (omega arith)
-
--- ---- both
-
-roles-kept : (n : ℕ) (ws : List ℕ) → map place (take n (map role ws)) ++ drop n ws ≡ ws
-roles-kept zero ws = refl
-roles-kept (suc n) [] = refl
-roles-kept (suc n) (w ∷ ws) = ap (λ r. w ∷ r) (roles-kept n ws)
-
--- words that hold the state that they held are the same
-pub state-kept : (ws : List ℕ) → 85 ≤ length ws → withState ws (stateIn ws) ≡ ws
-unfolding rolesIn stateIn stateOut withState
-state-kept (a ∷ b ∷ c ∷ d ∷ e ∷ f ∷ ws) h = ap (λ r. a ∷ b ∷ c ∷ d ∷ e ∷ f ∷ r) (roles-kept 79 ws)
-state-kept (a ∷ b ∷ c ∷ d ∷ e ∷ []) h = absurd (omega arith)
-state-kept (a ∷ b ∷ c ∷ d ∷ []) h = absurd (omega arith)
-state-kept (a ∷ b ∷ c ∷ []) h = absurd (omega arith)
-state-kept (a ∷ b ∷ []) h = absurd (omega arith)
-state-kept (a ∷ []) h = absurd (omega arith)
-state-kept [] h = absurd (omega arith)

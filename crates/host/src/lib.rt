@@ -1,6 +1,8 @@
 // The library for a host in C or Rust. A slice is a pointer and a length there; the state is 85 words that the host keeps.
 use btor2::NodeRef;
 use builder::Tally;
+use lowering::FIRST_ROLE;
+use lowering::STATE_WORDS;
 use lowering_refusals::Counts;
 use lowering_refusals::State;
 use print::Printed;
@@ -10,12 +12,9 @@ ghost use Prim.Native.Nat.{_≤_};
 ghost use lib.ListN.{length};
 ghost use Rattle.lowering.specs.Lowering.{lent};
 ghost use Rattle.lowering_refusals.specs.Refusal.{roomOf};
-ghost use Rattle.host.specs.Host.{rolesIn, stateIn, stateOut, withRoles, withState, given, hostLowering, givenAll, hostLoweringAll, givenText, hostPrinting, hostCheck};
-
-// The words of a state: lines, next identifier, counts of names, edges, dispatches and bads, and from this place on the roles.
-const STATE_WORDS: usize = 85;
-
-const FIRST_ROLE: usize = 6;
+ghost use Rattle.lowering.specs.Words.{rolesIn, stateIn, given};
+ghost use Rattle.lowering_all.specs.All.{givenAll};
+ghost use Rattle.host.specs.Host.{hostLowering, hostLoweringAll, givenText, hostPrinting, hostCheck};
 
 // A count above its storage.
 const BAD_COUNT: u64 = 9;
@@ -44,6 +43,9 @@ pub extern "C" fn lanthanumbat_lower(
         return BAD_COUNT;
     }
     let before = state_in(state);
+    let t = before.tally;
+    let places = before.roles;
+    let out = roles::roles_out(list, t.lines, places);
     let i = Instruction {
         kind,
         rd,
@@ -51,23 +53,18 @@ pub extern "C" fn lanthanumbat_lower(
         rs2,
         imm,
     };
-    let lowered = lowering::lower(
+    lowering::lower_words(
         list,
         names,
         edges,
         dispatches,
         bads,
-        before,
+        state,
         i,
         address,
         NodeRef(flag),
-    );
-    if lowered.refusal != 0 {
-        return lowered.refusal;
-    }
-    let after = lowered.state;
-    put_state(state, after);
-    0
+        !out,
+    )
 }
 
 // Lowers call after call, seven words each: address, kind, rd, rs1, rs2, imm, flag. Stops at the first that is refused: gives how many were
@@ -90,11 +87,12 @@ pub extern "C" fn lanthanumbat_lower_all(
         return 0;
     }
     let before = state_in(state);
-    let lowered = lowering_all::lower_all(list, names, edges, dispatches, bads, before, calls);
-    let after = lowered.state;
-    put_state(state, after);
-    *refusal = lowered.refusal;
-    lowered.done
+    let t = before.tally;
+    let places = before.roles;
+    let fits = !roles::roles_out(list, t.lines, places);
+    let stopped = lowering_all::lower_all(list, names, edges, dispatches, bads, state, calls, fits);
+    *refusal = stopped.refusal;
+    stopped.done
 }
 
 // Puts the `count` lines from place `from` on, of a list of this many lines, at the output's start. Gives the number of the refusal, or 0, and
@@ -176,32 +174,4 @@ fn roles_in(words: &[u64]) -> [NodeRef; 79]
         k += 1;
     }
     roles
-}
-
-fn put_state(words: &mut [u64], s: State)
-    requires { ⌜ 85 ≤ length (now words) ⌝ }
-    ensures { λ _. ⌜ now (words .exit) ≡ withState (now (words .entry)) s ⌝ }
-{
-    let t = s.tally;
-    let c = s.counts;
-    words[0] = t.lines as u64;
-    words[1] = t.nid;
-    words[2] = c.names as u64;
-    words[3] = c.edges as u64;
-    words[4] = c.dispatches as u64;
-    words[5] = c.bads as u64;
-    let roles = s.roles;
-    put_roles(words, roles);
-}
-
-fn put_roles(words: &mut [u64], roles: [NodeRef; 79])
-    requires { ⌜ 85 ≤ length (now words) ⌝ }
-    ensures { λ _. ⌜ now (words .exit) ≡ withRoles (now (words .entry)) roles ⌝ }
-{
-    let mut k = 0;
-    while k < roles::ROLES {
-        let place = roles[k];
-        words[FIRST_ROLE + k] = place.0 as u64;
-        k += 1;
-    }
 }

@@ -1,2 +1,4 @@
 pub mod Lowering
 pub mod Sums
+pub mod Parts
+pub mod Words

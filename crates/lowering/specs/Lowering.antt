@@ -124,7 +124,7 @@ refused n l st = record { lowered = record { refusal = n; state = st }; lent = l
 -- one call: the instruction i at the address pc under a flag; whether the roles fit is given
 unfoldable pub loweringGiven : Bool → Lent → State → Instruction → ℕ → NodeRef → Answer
 loweringGiven fits l st i pc flag =
-    let n = refusalGiven fits (l .list) (roomIn l) st i pc (flag .0) in
+    let n = refusalGiven fits (l .list) (roomIn l) (st .tally) (st .counts) i pc (flag .0) in
     cond (eqb n 0) (settled l st i pc (exec append (at (l .list) (st .tally)) (programOf st i pc flag))) (refused n l st)
 
 -- and is tested

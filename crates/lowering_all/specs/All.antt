@@ -1,14 +1,16 @@
 -- Many calls in one: each by `lowering`, from what the one before it left, up to the first that is refused.
-use Prim.Native.Nat.{ℕ, zero, suc, _+_, _/_}
-use mathlib.Core.Bool.{true, false}
+use Prim.Native.Nat.{ℕ, zero, suc, _+_, _/_, _≤_}
+use mathlib.Core.Path.{_≡_}
+use mathlib.Core.Bool.{Bool, true, false}
 use mathlib.Core.List.{List, [], _∷_}
 use lib.Dec.{eqb}
 use lib.ListN.{length, getD, drop}
 use Rattle.btor2.specs.declared.NodeRef.{NodeRef}
 use Rattle.riscv.specs.declared.Instruction.{Instruction}
+use Rattle.roles.specs.Roles.{rolesFit}
 use Rattle.lowering_refusals.specs.declared.State.{State}
 use Rattle.lowering.specs.Lowering.{Lent, lowering}
-use Rattle.lowering_all.specs.declared.LoweredAll.{LoweredAll}
+use Rattle.lowering.specs.Words.{stateIn, withState, loweringWords}
 
 -- ---- a call is seven words: address, kind, rd, rs1, rs2, imm, flag
 
@@ -33,22 +35,56 @@ callsIn (suc n) ws = callIn ws ∷ callsIn n (drop 7 ws)
 
 -- what they give: how many were accepted, the refusal of the next one or 0, the state, and the lent lists
 pub record AnswerAll : Type 0 where
-  pub lowered : LoweredAll
+  pub done : ℕ
+  pub refusal : ℕ
+  pub state : State
   pub lent : Lent
 
-abbrev pub answerAll : LoweredAll → Lent → AnswerAll
-answerAll r l = record { lowered = r; lent = l }
+abbrev pub answerAll : ℕ → ℕ → State → Lent → AnswerAll
+answerAll done n st l = record { done = done; refusal = n; state = st; lent = l }
 
 -- behind `done` calls that were accepted
 unfoldable pub loweringOn : ℕ → Lent → State → List Call → AnswerAll
-loweringOn done l st [] = answerAll (record { done = done; refusal = 0; state = st }) l
+loweringOn done l st [] = answerAll done 0 st l
 loweringOn done l st (c ∷ cs) =
     let a = lowering l st (c .instruction) (c .address) (c .flag) in
     elim (eqb (a .lowered .refusal) 0) [
       | true ↦ loweringOn (done + 1) (a .lent) (a .lowered .state) cs
-      | false ↦ answerAll (record { done = done; refusal = a .lowered .refusal; state = a .lowered .state }) (a .lent)
+      | false ↦ answerAll done (a .lowered .refusal) (a .lowered .state) (a .lent)
     ]
 
 -- the calls in words; those that do not fill a call at the end are not looked at
 unfoldable pub loweringAll : Lent → State → List ℕ → AnswerAll
 loweringAll l st ws = loweringOn 0 l st (callsIn (length ws / 7) ws)
+
+-- ---- the same over the state's words, where it is given whether the roles fit
+
+pub record GivenAll : Type 0 where
+  pub done : ℕ
+  pub refusal : ℕ
+  pub lent : Lent
+  pub state : List ℕ
+
+abbrev pub givenAll : ℕ → ℕ → Lent → List ℕ → GivenAll
+givenAll done n l ws = record { done = done; refusal = n; lent = l; state = ws }
+
+abbrev pub allBy : List ℕ → AnswerAll → GivenAll
+allBy ws a = givenAll (a .done) (a .refusal) (a .lent) (withState ws (a .state))
+
+unfoldable pub wordsOn : Bool → ℕ → Lent → List ℕ → List Call → GivenAll
+wordsOn fits done l ws [] = givenAll done 0 l ws
+wordsOn fits done l ws (c ∷ cs) =
+    let g = loweringWords fits l ws (c .instruction) (c .address) (c .flag) in
+    elim (eqb (g .refusal) 0) [
+      | true ↦ wordsOn fits (done + 1) (g .lent) (g .state) cs
+      | false ↦ givenAll done (g .refusal) (g .lent) (g .state)
+    ]
+
+unfoldable pub wordsAll : Bool → Lent → List ℕ → List ℕ → GivenAll
+wordsAll fits l ws calls = wordsOn fits 0 l ws (callsIn (length calls / 7) calls)
+
+-- ---- the law: where it is given rightly whether the roles fit at the start, both are the same
+
+abbrev pub SameByWords : Type 0
+SameByWords = (l : Lent) (ws calls : List ℕ) → 85 ≤ length ws
+    → wordsAll (rolesFit (l .list) (stateIn ws .tally .lines) 0 (stateIn ws .roles)) l ws calls ≡ allBy ws (loweringAll l (stateIn ws) calls)

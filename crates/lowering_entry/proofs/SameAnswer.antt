@@ -156,7 +156,7 @@ module _ (l n d b : List ℕ) (es : List InEdge) (st : State) (i : Instruction) 
     settled-whole : number ≡ 0 → Whole (settled own (withEdges st u) i pc run) (settled theirs st i pc run)
     unfolding settled countsAfter number roomOf
     settled-whole accepted =
-        let small : u + needs .edges ≤ 2 = A.roomy _ l (roomIn own) (withEdges st u) i pc (flag .0) accepted .edges in
+        let small : u + needs .edges ≤ 2 = A.roomy _ l (roomIn own) (withEdges st u .tally) (withEdges st u .counts) i pc (flag .0) accepted .edges in
         let small′ : u + edgeCount c ≤ 2 = rw edges-are at small in
         let fits : st .counts .edges + edgeCount c ≤ length es = ltb-false _ _ (sym (test (edgeCount c) (at-most c)) ∙ le-ltb 2 (u + edgeCount c) small′) in
         let added : (u + needs .edges) - u ≡ edgeCount c = omega (arith, edges-are) in (

@@ -43,13 +43,13 @@ module _ (l : Lent) (st : State) (i : Instruction) (pc : ℕ) (flag : NodeRef) w
     nid-in : st .tally .nid ≤ 2 ^ 31 + 2097152
     unfolding countsOut
     nid-in =
-        let p = neither (ltb 1048576 (st .tally .lines)) _ (A.counts-in _ (l .list) (roomIn l) st i pc (flag .0) e) in
+        let p = neither (ltb 1048576 (st .tally .lines)) _ (A.counts-in _ (l .list) (roomIn l) (st .tally) (st .counts) i pc (flag .0) e) in
         ltb-false _ _ (neither (ltb (2 ^ 31 + 2097152) (st .tally .nid)) _ (p .1) .0)
 
     room : Room (l .list) (st .tally) (growth i)
     unfolding roomOf
     room = record {
-      lines = rw (needs-lines (kindAt (i .kind)) (eqb (i .imm) 0) (eqb (i .rd) 0) pc (class (kindAt (i .kind))) (eqb (i .rs1) 0)) at (A.roomy _ (l .list) (roomIn l) st i pc (flag .0) e .lines);
+      lines = rw (needs-lines (kindAt (i .kind)) (eqb (i .imm) 0) (eqb (i .rd) 0) pc (class (kindAt (i .kind))) (eqb (i .rs1) 0)) at (A.roomy _ (l .list) (roomIn l) (st .tally) (st .counts) i pc (flag .0) e .lines);
       nids = omega (arith, nid-in, at-most (kindAt (i .kind)) (eqb (i .imm) 0) (eqb (i .rd) 0) (eqb (i .rs1) 0));
     }
 

@@ -57,20 +57,20 @@ unfoldable pub flagOut : List ℕ → ℕ → Class → Bool → Bool → ℕ �
 flagOut ws lines c d s flag = needsFlag c d s && not (eqb (valueNumber (lookAt ws lines flag)) 1)
 
 -- the first that applies, or 0; the record's own refusals are 1 to 6. Whether the roles fit is given.
-unfoldable pub refusalGiven : Bool → List ℕ → Room → State → Instruction → ℕ → ℕ → ℕ
-refusalGiven fits ws room st i pc flag =
+unfoldable pub refusalGiven : Bool → List ℕ → Room → Tally → Counts → Instruction → ℕ → ℕ → ℕ
+refusalGiven fits ws room t c i pc flag =
     let k = kindAt (i .kind) in
     let z = eqb (i .imm) 0 in
     let d = eqb (i .rd) 0 in
     let s = eqb (i .rs1) 0 in
     first
-    ((countsOut room (st .tally) (st .counts), 9)
+    ((countsOut room t c, 9)
     ∷ (not fits, 13)
     ∷ (not (eqb (refusal i) 0), refusal i)
-    ∷ (flagOut ws (st .tally .lines) (class k) d s flag, 7)
-    ∷ (roomOut room (st .tally) (st .counts) (needsOf k (class k) z d s pc), 8)
+    ∷ (flagOut ws (t .lines) (class k) d s flag, 7)
+    ∷ (roomOut room t c (needsOf k (class k) z d s pc), 8)
     ∷ [])
 
 -- 13: "a role is outside the list, not a value line, or of the wrong sort"
 abbrev pub refusalOf : List ℕ → Room → State → Instruction → ℕ → ℕ → ℕ
-refusalOf ws room st i pc flag = refusalGiven (rolesFit ws (st .tally .lines) 0 (st .roles)) ws room st i pc flag
+refusalOf ws room st i pc flag = refusalGiven (rolesFit ws (st .tally .lines) 0 (st .roles)) ws room (st .tally) (st .counts) i pc flag

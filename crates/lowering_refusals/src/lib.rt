@@ -168,16 +168,15 @@ fn flag_out(list: &[u64], lines: usize, class: Class, d: bool, s: bool, flag: No
 pub fn refuse_given(
     list: &[u64],
     room: Room,
-    state: State,
+    t: Tally,
+    c: Counts,
     i: Instruction,
     address: u64,
     flag: NodeRef,
     fits: bool,
 ) -> u64
-    ensures { λ r. ⌜ r ≡ refusalGiven fits (now (list .entry)) room state i address (flag .0) ⌝ }
+    ensures { λ r. ⌜ r ≡ refusalGiven fits (now (list .entry)) room t c i address (flag .0) ⌝ }
 {
-    let t = state.tally;
-    let c = state.counts;
     if counts_out(room, t, c) {
         return 9;
     }

@@ -145,7 +145,7 @@ module _ (l : Lent) (st : State) (i : Instruction) (pc : ℕ) (flag : NodeRef) w
 
     pub stored : count * stride ≤ length (l .list)
     unfolding roomOf
-    stored = omega (arith, within (roomIn l) (st .tally) (st .counts) (A.counts-in _ (l .list) (roomIn l) st i pc (flag .0) e) .lines)
+    stored = omega (arith, within (roomIn l) (st .tally) (st .counts) (A.counts-in _ (l .list) (roomIn l) (st .tally) (st .counts) i pc (flag .0) e) .lines)
 
     roled : Roled before (st .roles)
     roled = record { size = size; fit = fit-given (l .list) count (st .roles) stored size (subst T (sym (roles-in (l .list) (roomIn l) st i pc (flag .0) e)) tt) }
@@ -203,13 +203,13 @@ module _ (l : Lent) (st : State) (i : Instruction) (pc : ℕ) (flag : NodeRef) w
     identifier-in : st .tally .nid ≤ 2 ^ 31 + 2097152
     unfolding countsOut
     identifier-in =
-        let p = neither (ltb 1048576 count) _ (A.counts-in _ (l .list) (roomIn l) st i pc (flag .0) e) in
+        let p = neither (ltb 1048576 count) _ (A.counts-in _ (l .list) (roomIn l) (st .tally) (st .counts) i pc (flag .0) e) in
         ltb-false _ _ (neither (ltb (2 ^ 31 + 2097152) (st .tally .nid)) _ (p .1) .0)
 
     room : Room (l .list) (st .tally) (length (linesOf (behind count) 0 (programOf st i pc flag)))
     unfolding roomOf
     room = rw grown (record {
-      lines = rw (needs-lines kind z d pc (class kind) s) at (A.roomy _ (l .list) (roomIn l) st i pc (flag .0) e .lines);
+      lines = rw (needs-lines kind z d pc (class kind) s) at (A.roomy _ (l .list) (roomIn l) (st .tally) (st .counts) i pc (flag .0) e .lines);
       nids = omega (arith, identifier-in, accepts .most);
     })
 

@@ -70,29 +70,29 @@ module _ (i : Instruction) (e : refusal i ≡ 0) where
       record { range = p3 .0; amount = p4 .0; nonzero = p5 .0 }
 
 module _ (ws : List ℕ) (room : Room) (st : State) (i : Instruction) (pc flag : ℕ) (e : refusalOf ws room st i pc flag ≡ 0) where
-  past-13 : first (fromRecord ws room st i pc flag) ≡ 0
+  past-13 : first (fromRecord ws room (st .tally) (st .counts) i pc flag) ≡ 0
   unfolding refusalGiven
   past-13 =
-      passes (not (rolesFit ws (st .tally .lines) 0 (st .roles))) 13 (fromRecord ws room st i pc flag) (λ z. omega arith)
-      (passes (countsOut room (st .tally) (st .counts)) 9 (from13 ws room st i pc flag (rolesFit ws (st .tally .lines) 0 (st .roles))) (λ z. omega arith) e .1) .1
+      passes (not (rolesFit ws (st .tally .lines) 0 (st .roles))) 13 (fromRecord ws room (st .tally) (st .counts) i pc flag) (λ z. omega arith)
+      (passes (countsOut room (st .tally) (st .counts)) 9 (from13 ws room (st .tally) (st .counts) i pc flag (rolesFit ws (st .tally .lines) 0 (st .roles))) (λ z. omega arith) e .1) .1
 
   pub roles-in : rolesFit ws (st .tally .lines) 0 (st .roles) ≡ true
   unfolding refusalGiven
   roles-in =
       fitting (rolesFit ws (st .tally .lines) 0 (st .roles))
-      (passes (not (rolesFit ws (st .tally .lines) 0 (st .roles))) 13 (fromRecord ws room st i pc flag) (λ z. omega arith)
-      (passes (countsOut room (st .tally) (st .counts)) 9 (from13 ws room st i pc flag (rolesFit ws (st .tally .lines) 0 (st .roles))) (λ z. omega arith) e .1) .0)
+      (passes (not (rolesFit ws (st .tally .lines) 0 (st .roles))) 13 (fromRecord ws room (st .tally) (st .counts) i pc flag) (λ z. omega arith)
+      (passes (countsOut room (st .tally) (st .counts)) 9 (from13 ws room (st .tally) (st .counts) i pc flag (rolesFit ws (st .tally .lines) 0 (st .roles))) (λ z. omega arith) e .1) .0)
 
   pub record-in : refusal i ≡ 0
-  record-in = record-passes (refusal i) (from7 ws room st i pc flag) past-13 .0
+  record-in = record-passes (refusal i) (from7 ws room (st .tally) (st .counts) i pc flag) past-13 .0
 
   -- the flag is a value line of sort Bit, where it is needed
   pub flag-in : needsFlag (class (kindAt (i .kind))) (eqb (i .rd) 0) (eqb (i .rs1) 0) ≡ true → valueNumber (lookAt ws (st .tally .lines) flag) ≡ 1
   unfolding flagOut
   flag-in h =
       go (needsFlag (class (kindAt (i .kind))) (eqb (i .rd) 0) (eqb (i .rs1) 0)) (eqb (valueNumber (lookAt ws (st .tally .lines) flag)) 1) h refl
-      (passes (flagOut ws (st .tally .lines) (class (kindAt (i .kind))) (eqb (i .rd) 0) (eqb (i .rs1) 0) flag) 7 (from8 ws room st i pc flag) (λ z. omega arith)
-      (record-passes (refusal i) (from7 ws room st i pc flag) past-13 .1) .0)
+      (passes (flagOut ws (st .tally .lines) (class (kindAt (i .kind))) (eqb (i .rd) 0) (eqb (i .rs1) 0) flag) 7 (from8 ws room (st .tally) (st .counts) i pc flag) (λ z. omega arith)
+      (record-passes (refusal i) (from7 ws room (st .tally) (st .counts) i pc flag) past-13 .1) .0)
     where
       go : (a b : Bool) → a ≡ true → eqb (valueNumber (lookAt ws (st .tally .lines) flag)) 1 ≡ b → (a && not b) ≡ false → valueNumber (lookAt ws (st .tally .lines) flag) ≡ 1
       go a true h f n = eqb-true _ _ f

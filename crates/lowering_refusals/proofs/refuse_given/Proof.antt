@@ -20,72 +20,72 @@ use Rattle.lowering_refusals.proofs.refuse_given.Statement.{statement}
 use Rattle.lowering_refusals.proofs.refuse_given.Tie as tie
 
 -- the answer is that of the tests which are left
-past9 : (c : tie.Else1) {x : ℕ} → let a = c .before .before .before .before .before .args in
-    x ≡ first (from13 (now (a .list)) (a .room) (a .state) (a .i) (a .address) (a .flag .0) (a .fits)) → x ≡ refusalGiven (a .fits) (now (a .list)) (a .room) (a .state) (a .i) (a .address) (a .flag .0)
+past9 : (c : tie.Else1) {x : ℕ} → let a = c .before .before .before .args in
+    x ≡ first (from13 (now (a .list)) (a .room) (a .t) (a .c) (a .i) (a .address) (a .flag .0) (a .fits)) → x ≡ refusalGiven (a .fits) (now (a .list)) (a .room) (a .t) (a .c) (a .i) (a .address) (a .flag .0)
 unfolding refusalGiven
 past9 c h =
-    let a = c .before .before .before .before .before .args in
-    miss 9 (from13 (now (a .list)) (a .room) (a .state) (a .i) (a .address) (a .flag .0) (a .fits)) (sym (c .before .counts-out .ensures) ∙ c .if1 .left) h
+    let a = c .before .before .before .args in
+    miss 9 (from13 (now (a .list)) (a .room) (a .t) (a .c) (a .i) (a .address) (a .flag .0) (a .fits)) (sym (c .before .counts-out .ensures) ∙ c .if1 .left) h
 
-past13 : (c : tie.Else2) {x : ℕ} → let a = c .before .before .before .before .before .before .args in
-    x ≡ first (fromRecord (now (a .list)) (a .room) (a .state) (a .i) (a .address) (a .flag .0)) → x ≡ refusalGiven (a .fits) (now (a .list)) (a .room) (a .state) (a .i) (a .address) (a .flag .0)
+past13 : (c : tie.Else2) {x : ℕ} → let a = c .before .before .before .before .args in
+    x ≡ first (fromRecord (now (a .list)) (a .room) (a .t) (a .c) (a .i) (a .address) (a .flag .0)) → x ≡ refusalGiven (a .fits) (now (a .list)) (a .room) (a .t) (a .c) (a .i) (a .address) (a .flag .0)
 past13 c h =
-    let a = c .before .before .before .before .before .before .args in
-    past9 (c .before) (miss 13 (fromRecord (now (a .list)) (a .room) (a .state) (a .i) (a .address) (a .flag .0)) (c .if2 .left) h)
+    let a = c .before .before .before .before .args in
+    past9 (c .before) (miss 13 (fromRecord (now (a .list)) (a .room) (a .t) (a .c) (a .i) (a .address) (a .flag .0)) (c .if2 .left) h)
 
-pastRecord : (c : tie.Else3) {x : ℕ} → let a = c .before .before .before .before .before .before .before .before .args in
-    x ≡ first (from7 (now (a .list)) (a .room) (a .state) (a .i) (a .address) (a .flag .0)) → x ≡ refusalGiven (a .fits) (now (a .list)) (a .room) (a .state) (a .i) (a .address) (a .flag .0)
+pastRecord : (c : tie.Else3) {x : ℕ} → let a = c .before .before .before .before .before .before .args in
+    x ≡ first (from7 (now (a .list)) (a .room) (a .t) (a .c) (a .i) (a .address) (a .flag .0)) → x ≡ refusalGiven (a .fits) (now (a .list)) (a .room) (a .t) (a .c) (a .i) (a .address) (a .flag .0)
 pastRecord c h =
-    let a = c .before .before .before .before .before .before .before .before .args in
+    let a = c .before .before .before .before .before .before .args in
     past13 (c .before .before)
-    (miss (refusal (a .i)) (from7 (now (a .list)) (a .room) (a .state) (a .i) (a .address) (a .flag .0))
+    (miss (refusal (a .i)) (from7 (now (a .list)) (a .room) (a .t) (a .c) (a .i) (a .address) (a .flag .0))
     (ap not (eq-eqb (refusal (a .i)) 0 (sym (c .before .check .ensures) ∙ c .if3 .left))) h)
 
-flagged : (c : tie.After-flag-out) → let a = c .before .before .before .before .before .before .before .before .before .before .before .before .before .args in
-    c .flag-out .result ≡ flagOut (now (a .list)) (a .state .tally .lines) (class (kindAt (a .i .kind))) (eqb (a .i .rd) 0) (eqb (a .i .rs1) 0) (a .flag .0)
+flagged : (c : tie.After-flag-out) → let a = c .before .before .before .before .before .before .before .before .before .before .before .args in
+    c .flag-out .result ≡ flagOut (now (a .list)) (a .t .lines) (class (kindAt (a .i .kind))) (eqb (a .i .rd) 0) (eqb (a .i .rs1) 0) (a .flag .0)
 flagged c =
-    let a = c .before .before .before .before .before .before .before .before .before .before .before .before .before .args in
+    let a = c .before .before .before .before .before .before .before .before .before .before .before .args in
     c .flag-out .ensures
-    ∙ ap (λ (k : Class). flagOut (now (a .list)) (a .state .tally .lines) k (eqb (a .i .rd) 0) (eqb (a .i .rs1) 0) (a .flag .0)) (c .before .before .before .before .class-of .ensures)
+    ∙ ap (λ (k : Class). flagOut (now (a .list)) (a .t .lines) k (eqb (a .i .rd) 0) (eqb (a .i .rs1) 0) (a .flag .0)) (c .before .before .before .before .class-of .ensures)
 
-past7 : (c : tie.Else4) {x : ℕ} → let a = c .before .before .before .before .before .before .before .before .before .before .before .before .before .before .args in
-    x ≡ first (from8 (now (a .list)) (a .room) (a .state) (a .i) (a .address) (a .flag .0)) → x ≡ refusalGiven (a .fits) (now (a .list)) (a .room) (a .state) (a .i) (a .address) (a .flag .0)
+past7 : (c : tie.Else4) {x : ℕ} → let a = c .before .before .before .before .before .before .before .before .before .before .before .before .args in
+    x ≡ first (from8 (now (a .list)) (a .room) (a .t) (a .c) (a .i) (a .address) (a .flag .0)) → x ≡ refusalGiven (a .fits) (now (a .list)) (a .room) (a .t) (a .c) (a .i) (a .address) (a .flag .0)
 past7 c h =
-    let a = c .before .before .before .before .before .before .before .before .before .before .before .before .before .before .args in
+    let a = c .before .before .before .before .before .before .before .before .before .before .before .before .args in
     pastRecord (c .before .before .before .before .before .before)
-    (miss 7 (from8 (now (a .list)) (a .room) (a .state) (a .i) (a .address) (a .flag .0)) (sym (flagged (c .before)) ∙ c .if4 .left) h)
+    (miss 7 (from8 (now (a .list)) (a .room) (a .t) (a .c) (a .i) (a .address) (a .flag .0)) (sym (flagged (c .before)) ∙ c .if4 .left) h)
 
-roomed : (c : tie.After-room-out) → let a = c .before .before .before .before .before .before .before .before .before .before .before .before .before .before .before .before .args in
-    c .room-out .result ≡ roomOut (a .room) (a .state .tally) (a .state .counts) (needsOf (kindAt (a .i .kind)) (class (kindAt (a .i .kind))) (eqb (a .i .imm) 0) (eqb (a .i .rd) 0) (eqb (a .i .rs1) 0) (a .address))
+roomed : (c : tie.After-room-out) → let a = c .before .before .before .before .before .before .before .before .before .before .before .before .before .before .args in
+    c .room-out .result ≡ roomOut (a .room) (a .t) (a .c) (needsOf (kindAt (a .i .kind)) (class (kindAt (a .i .kind))) (eqb (a .i .imm) 0) (eqb (a .i .rd) 0) (eqb (a .i .rs1) 0) (a .address))
 roomed c =
-    let a = c .before .before .before .before .before .before .before .before .before .before .before .before .before .before .before .before .args in
+    let a = c .before .before .before .before .before .before .before .before .before .before .before .before .before .before .args in
     c .room-out .ensures
-    ∙ ap (λ (n : Room). roomOut (a .room) (a .state .tally) (a .state .counts) n)
+    ∙ ap (λ (n : Room). roomOut (a .room) (a .t) (a .c) n)
     (c .before .needs-of .ensures .0
     ∙ ap (λ (k : Class). needsOf (kindAt (a .i .kind)) k (eqb (a .i .imm) 0) (eqb (a .i .rd) 0) (eqb (a .i .rs1) 0) (a .address)) (c .before .before .before .before .before .before .before .class-of .ensures))
 
 returns : tie.Need-returns
 unfolding refusalGiven
 returns c =
-    let a = c .before .before .before .before .before .args in
-    hit 9 (from13 (now (a .list)) (a .room) (a .state) (a .i) (a .address) (a .flag .0) (a .fits)) (sym (c .before .counts-out .ensures) ∙ c .if1 .taken)
+    let a = c .before .before .before .args in
+    hit 9 (from13 (now (a .list)) (a .room) (a .t) (a .c) (a .i) (a .address) (a .flag .0) (a .fits)) (sym (c .before .counts-out .ensures) ∙ c .if1 .taken)
 
 returns-2 : tie.Need-returns-2
 returns-2 c =
-    let a = c .before .before .before .before .before .before .args in
-    past9 (c .before) (hit 13 (fromRecord (now (a .list)) (a .room) (a .state) (a .i) (a .address) (a .flag .0)) (c .if2 .taken))
+    let a = c .before .before .before .before .args in
+    past9 (c .before) (hit 13 (fromRecord (now (a .list)) (a .room) (a .t) (a .c) (a .i) (a .address) (a .flag .0)) (c .if2 .taken))
 
 returns-3 : tie.Need-returns-3
 returns-3 c =
-    let a = c .before .before .before .before .before .before .before .before .args in
+    let a = c .before .before .before .before .before .before .args in
     let e = c .before .check .ensures in
     past13 (c .before .before)
-    (e ∙ hit (refusal (a .i)) (from7 (now (a .list)) (a .room) (a .state) (a .i) (a .address) (a .flag .0)) (ap not (ne-eqb (refusal (a .i)) 0 (λ z. c .if3 .taken (e ∙ z)))))
+    (e ∙ hit (refusal (a .i)) (from7 (now (a .list)) (a .room) (a .t) (a .c) (a .i) (a .address) (a .flag .0)) (ap not (ne-eqb (refusal (a .i)) 0 (λ z. c .if3 .taken (e ∙ z)))))
 
 returns-4 : tie.Need-returns-4
 returns-4 c =
-    let a = c .before .before .before .before .before .before .before .before .before .before .before .before .before .before .args in
-    pastRecord (c .before .before .before .before .before .before) (hit 7 (from8 (now (a .list)) (a .room) (a .state) (a .i) (a .address) (a .flag .0)) (sym (flagged (c .before)) ∙ c .if4 .taken))
+    let a = c .before .before .before .before .before .before .before .before .before .before .before .before .args in
+    pastRecord (c .before .before .before .before .before .before) (hit 7 (from8 (now (a .list)) (a .room) (a .t) (a .c) (a .i) (a .address) (a .flag .0)) (sym (flagged (c .before)) ∙ c .if4 .taken))
 
 room-out-requires : tie.Need-room-out-requires
 room-out-requires c κs =
