@@ -1,0 +1,59 @@
+-- Call by call: what is lent with each is what stands there. Assumes nothing.
+use Prim.Native.Nat.{ℕ, zero, suc, _+_, _*_}
+use mathlib.Core.Path.{_≡_, refl, sym, ap, ap₂, _∙_}
+use mathlib.Core.Bool.{Bool, true, false, cond}
+use mathlib.Core.List.{List, [], _∷_, _++_}
+use native.Mathlib.Omega.{arith}
+use borrow.Author.Tests.{eq-eqb, eqb-true, eqb-false}
+use lib.Dec.{eqb}
+use lib.ListN.{length, take, drop}
+use Rattle.btor2_list.specs.Record.{stride}
+use Rattle.lowering_refusals.specs.declared.State.{State}
+use Rattle.lowering.specs.Lowering.{Lent, lent, Answer, lowering}
+use Rattle.lowering_all.specs.All as Many
+use Rattle.lowering_all.specs.All.{AnswerAll, answerAll, loweringOn}
+use Rattle.demand.specs.Calls.{Held, Request, lower, inFront, lentFor, stateFor, answerTo, accepted, step, run}
+use Rattle.demand_all.specs.Many.{held, request, requests, ManyAreRun}
+
+front-self : (n : ℕ) (ws : List ℕ) → take (length ws) (take n ws) ++ drop (length (take n ws)) ws ≡ ws
+front-self zero [] = refl
+front-self zero (w ∷ ws) = refl
+front-self (suc n) [] = refl
+front-self (suc n) (w ∷ ws) = ap (λ l. w ∷ l) (front-self n ws)
+
+module _ (l : Lent) (st : State) (c : Many.Call) where
+  abbrev a : Answer
+  a = lowering l st (c .instruction) (c .address) (c .flag)
+
+  answer-is : answerTo (held l st) (request l st c) ≡ a
+  unfolding answerTo lentFor stateFor inFront
+  answer-is = ap₂ (λ (ws ns : List ℕ). lowering (lent ws ns (l .edges) (l .dispatches) (l .bads)) st (c .instruction) (c .address) (c .flag)) (front-self (st .tally .lines * stride) (l .list)) (front-self (st .counts .names) (l .names))
+
+  step-is : a .lowered .refusal ≡ 0 → step (held l st) (lower (request l st c)) ≡ held (a .lent) (a .lowered .state)
+  unfolding step accepted
+  step-is e = rw (answer-is, eq-eqb (a .lowered .refusal) 0 e)
+
+-- what is made of an answer
+abbrev then : ℕ → List Many.Call → Answer → Bool → AnswerAll
+then k cs b t = elim t [ true ↦ loweringOn (k + 1) (b .lent) (b .lowered .state) cs | false ↦ answerAll k (b .lowered .refusal) (b .lowered .state) (b .lent) ]
+
+-- whatever the count of calls before
+Left : ℕ → List Many.Call → Type 0
+Left k cs = (l : Lent) (st : State) → loweringOn k l st cs .refusal ≡ 0 → run (held l st) (requests l st cs) ≡ held (loweringOn k l st cs .lent) (loweringOn k l st cs .state)
+
+behind : (c : Many.Call) (cs : List Many.Call) (k : ℕ) (l : Lent) (st : State) → Left (k + 1) cs → (t : Bool) → eqb (a l st c .lowered .refusal) 0 ≡ t → then k cs (a l st c) t .refusal ≡ 0
+    → run (step (held l st) (lower (request l st c))) (requests (a l st c .lent) (a l st c .lowered .state) cs) ≡ held (then k cs (a l st c) t .lent) (then k cs (a l st c) t .state)
+unfolding Left
+behind c cs k l st rest true q e =
+    ap (λ (h : Held). run h (requests (a l st c .lent) (a l st c .lowered .state) cs)) (step-is l st c (eqb-true (a l st c .lowered .refusal) 0 q))
+    ∙ rest (a l st c .lent) (a l st c .lowered .state) e
+behind c cs k l st rest false q e = absurd (eqb-false (a l st c .lowered .refusal) 0 q e)
+
+many : (cs : List Many.Call) (k : ℕ) → Left k cs
+unfolding Left loweringOn requests run
+many [] k l st e = refl
+many (c ∷ cs) k l st e = behind c cs k l st (many cs (k + 1)) (eqb (a l st c .lowered .refusal) 0) refl e
+
+pub many-are-run : ManyAreRun
+unfolding Left
+many-are-run l st cs e = many cs 0 l st e

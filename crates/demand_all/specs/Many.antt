@@ -1,0 +1,36 @@
+-- Many calls in one, of which all are accepted, leave what demand 3's `run` leaves, each call being lent what the one before it left. So what
+-- demand 3 says of a list of calls, it says of `lower_all`'s.
+use mathlib.Core.Path.{_≡_}
+use mathlib.Core.List.{List, [], _∷_}
+use Rattle.lowering_refusals.specs.declared.State.{State}
+use Rattle.lowering.specs.Lowering.{Lent, lowering}
+use Rattle.lowering_all.specs.All as Many
+use Rattle.lowering_all.specs.All.{loweringOn}
+use Rattle.demand.specs.Calls.{Held, Request, Call, lower, run}
+
+abbrev pub held : Lent → State → Held
+held l st = record { list = l .list; names = l .names; state = st }
+
+abbrev pub request : Lent → State → Many.Call → Request
+request l st c = record {
+  instruction = c .instruction;
+  address = c .address;
+  flag = c .flag;
+  list = l .list;
+  names = l .names;
+  edges = l .edges;
+  dispatches = l .dispatches;
+  bads = l .bads;
+  edgeCount = st .counts .edges;
+  dispatchCount = st .counts .dispatches;
+  badCount = st .counts .bads;
+}
+
+unfoldable pub requests : Lent → State → List Many.Call → List Call
+requests l st [] = []
+requests l st (c ∷ cs) =
+    let a = lowering l st (c .instruction) (c .address) (c .flag) in lower (request l st c) ∷ requests (a .lent) (a .lowered .state) cs
+
+abbrev pub ManyAreRun : Type 0
+ManyAreRun = (l : Lent) (st : State) (cs : List Many.Call) → loweringOn 0 l st cs .refusal ≡ 0
+    → run (held l st) (requests l st cs) ≡ held (loweringOn 0 l st cs .lent) (loweringOn 0 l st cs .state)
