@@ -10,7 +10,7 @@ use Rattle.riscv.specs.declared.Instruction.{Instruction}
 use Rattle.roles.specs.Roles.{rolesFit}
 use Rattle.lowering_refusals.specs.declared.State.{State}
 use Rattle.lowering.specs.Lowering.{Lent}
-use Rattle.lowering.specs.Words.{stateIn, Given, loweringWords}
+use Rattle.lowering_words.specs.Words.{stateIn, Given, loweringWords}
 use Rattle.lowering.proofs.Accepted.{flipped}
 use Rattle.lowering_all.specs.All.{GivenAll, wordsAll}
 use Rattle.lowering_all.proofs.Same.{same-by-words}

@@ -8,7 +8,7 @@ use mathlib.Core.List.{List, _++_, map, append-nil}
 use lib.ListN.{length, getD, set, take, drop, length-drop, drop-of-length-le, length-map, List·getD-map}
 use lib.Seq.{getD-drop, drop-cons, set-at, append-snoc, take-suc, length-take-le}
 use Rattle.btor2.specs.declared.NodeRef.{NodeRef}
-use Rattle.lowering.specs.Words.{role, rolesIn}
+use Rattle.lowering_words.specs.Words.{role, rolesIn}
 
 -- the first k of s, stored over the front of d
 abbrev pub front : {A : Type 0} → List A → List A → ℕ → List A

@@ -11,7 +11,7 @@ use Rattle.print.specs.Printing as Printing
 use Rattle.print.specs.Printing.{refused, written, printing}
 use Rattle.start.specs.Start.{startRefusal}
 use Rattle.lowering.specs.Lowering.{Lent, lowering}
-use Rattle.lowering.specs.Words.{stateIn, Given, given, givenBy}
+use Rattle.lowering_words.specs.Words.{stateIn, Given, given, givenBy}
 use Rattle.lowering_all.specs.All.{loweringAll, GivenAll, givenAll, allBy}
 
 -- ---- a lowering

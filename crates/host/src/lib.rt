@@ -1,10 +1,10 @@
 // The library for a host in C or Rust. A slice is a pointer and a length there; the state is 85 words that the host keeps.
 use btor2::NodeRef;
 use builder::Tally;
-use lowering::FIRST_ROLE;
-use lowering::STATE_WORDS;
 use lowering_refusals::Counts;
 use lowering_refusals::State;
+use lowering_words::FIRST_ROLE;
+use lowering_words::STATE_WORDS;
 use print::Printed;
 use riscv::Instruction;
 ghost use mathlib.Core.Path.{_≡_};
@@ -12,7 +12,7 @@ ghost use Prim.Native.Nat.{_≤_};
 ghost use lib.ListN.{length};
 ghost use Rattle.lowering.specs.Lowering.{lent};
 ghost use Rattle.lowering_refusals.specs.Refusal.{roomOf};
-ghost use Rattle.lowering.specs.Words.{rolesIn, stateIn, given};
+ghost use Rattle.lowering_words.specs.Words.{rolesIn, stateIn, given};
 ghost use Rattle.lowering_all.specs.All.{givenAll};
 ghost use Rattle.host.specs.Host.{hostLowering, hostLoweringAll, givenText, hostPrinting, hostCheck};
 
@@ -53,7 +53,7 @@ pub extern "C" fn lanthanumbat_lower(
         rs2,
         imm,
     };
-    lowering::lower_words(
+    lowering_words::lower_words(
         list,
         names,
         edges,

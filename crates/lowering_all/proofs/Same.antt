@@ -14,8 +14,8 @@ use Rattle.roles.specs.Roles.{rolesFit}
 use Rattle.lowering_refusals.specs.declared.State.{State}
 use Rattle.lowering_refusals.specs.Refusal.{refusalOf}
 use Rattle.lowering.specs.Lowering.{Lent, Answer, roomIn, loweringGiven, lowering}
-use Rattle.lowering.specs.Words.{role, place, rolesIn, stateIn, stateOut, withState, Given, givenBy, loweringWords}
-use Rattle.lowering.proofs.Words.{state-kept}
+use Rattle.lowering_words.specs.Words.{role, place, rolesIn, stateIn, stateOut, withState, Given, givenBy, loweringWords}
+use Rattle.lowering_words.proofs.Words.{state-kept}
 use Rattle.roles_kept.proofs.Passed.{roles-in}
 use Rattle.roles_kept.proofs.Call.{refusal-is, roled-after, roles-keep}
 use Rattle.lowering_all.specs.All.{Call, callsIn, AnswerAll, answerAll, loweringOn, loweringAll, GivenAll, givenAll, allBy, wordsOn, wordsAll, SameByWords}

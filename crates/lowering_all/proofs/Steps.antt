@@ -9,7 +9,7 @@ use lib.Dec.{eqb}
 use lib.ListN.{length, drop}
 use lib.Seq.{drop-drop}
 use Rattle.lowering.specs.Lowering.{Lent}
-use Rattle.lowering.specs.Words.{Given, loweringWords}
+use Rattle.lowering_words.specs.Words.{Given, loweringWords}
 use Rattle.lowering_all.specs.All.{Call, callIn, callsIn, GivenAll, givenAll, wordsOn, wordsAll}
 
 -- at the start

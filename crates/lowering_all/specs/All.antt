@@ -10,7 +10,7 @@ use Rattle.riscv.specs.declared.Instruction.{Instruction}
 use Rattle.roles.specs.Roles.{rolesFit}
 use Rattle.lowering_refusals.specs.declared.State.{State}
 use Rattle.lowering.specs.Lowering.{Lent, lowering}
-use Rattle.lowering.specs.Words.{stateIn, withState, loweringWords}
+use Rattle.lowering_words.specs.Words.{stateIn, withState, loweringWords}
 
 -- ---- a call is seven words: address, kind, rd, rs1, rs2, imm, flag
 

@@ -5,7 +5,7 @@ ghost use mathlib.Core.Path.{_≡_};
 ghost use Prim.Native.Nat.{_+_, _*_, _≤_};
 ghost use lib.ListN.{length, drop};
 ghost use Rattle.lowering.specs.Lowering.{lent};
-ghost use Rattle.lowering.specs.Words.{given, loweringWords};
+ghost use Rattle.lowering_words.specs.Words.{given, loweringWords};
 ghost use Rattle.lowering_all.specs.All.{callIn, givenAll, wordsAll};
 
 // The words of a call: address, kind, rd, rs1, rs2, imm, flag.
@@ -17,7 +17,7 @@ pub struct Stopped {
     pub refusal: u64,
 }
 
-// Lowers call after call, as `lowering::lower_words` does, and stops at the first that is refused.
+// Lowers call after call, as `lowering_words::lower_words` does, and stops at the first that is refused.
 pub fn lower_all(
     list: &mut [u64],
     names: &mut [u8],
@@ -77,7 +77,7 @@ fn lower_next(
     };
     let address = calls[from];
     let flag = NodeRef(calls[from + 6] as usize);
-    lowering::lower_words(
+    lowering_words::lower_words(
         list,
         names,
         edges,

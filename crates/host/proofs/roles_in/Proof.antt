@@ -7,7 +7,7 @@ use denote.Ref.{now}
 use lib.ListN.{length, length-set, getD, set, drop}
 use borrow.Author.Needs.{needs}
 use Rattle.btor2.specs.declared.NodeRef.{NodeRef}
-use Rattle.lowering.specs.Words.{role}
+use Rattle.lowering_words.specs.Words.{role}
 use Rattle.host.proofs.Words.{front, role-read, roles-read}
 use Rattle.host.proofs.roles_in.Statement.{statement}
 use Rattle.host.proofs.roles_in.Tie as tie

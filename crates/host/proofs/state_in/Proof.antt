@@ -1,6 +1,6 @@
 -- The words are read one by one. Assumes nothing.
 use borrow.Author.Needs.{needs}
-use Rattle.lowering.specs.Words.{stateIn}
+use Rattle.lowering_words.specs.Words.{stateIn}
 use Rattle.host.proofs.state_in.Statement.{statement}
 use Rattle.host.proofs.state_in.Tie as tie
 

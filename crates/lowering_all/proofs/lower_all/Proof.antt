@@ -6,7 +6,7 @@ use borrow.Author.Needs.{needs}
 use denote.Ref.{now}
 use lib.ListN.{length, drop}
 use Rattle.lowering.specs.Lowering.{lent}
-use Rattle.lowering.specs.Words.{given}
+use Rattle.lowering_words.specs.Words.{given}
 use Rattle.lowering_all.specs.All.{callIn, callsIn, wordsOn, wordsAll}
 use Rattle.lowering_all.proofs.Steps.{from-none, calls-next, ends, stops, goes-on}
 use Rattle.lowering_all.proofs.lower_all.Statement.{statement}

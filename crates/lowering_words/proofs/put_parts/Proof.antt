@@ -6,11 +6,12 @@ use lib.ListN.{length-set}
 use lib.Seq.{length-sets}
 use borrow.Author.Needs.{needs}
 use Rattle.models.specs.Code.{flowsOf, outcomeOf}
-use Rattle.lowering.specs.Parts.{stateOf, rolesAfter, putOutcome}
-use Rattle.lowering.specs.Words.{rolesIn}
-use Rattle.lowering.proofs.Words.{counted, parts-put}
-use Rattle.lowering.proofs.put_parts.Statement.{statement}
-use Rattle.lowering.proofs.put_parts.Tie as tie
+use Rattle.lowering.specs.Parts.{stateOf, rolesAfter}
+use Rattle.lowering_words.specs.Places.{putOutcome}
+use Rattle.lowering_words.specs.Words.{rolesIn}
+use Rattle.lowering_words.proofs.Words.{counted, parts-put}
+use Rattle.lowering_words.proofs.put_parts.Statement.{statement}
+use Rattle.lowering_words.proofs.put_parts.Tie as tie
 
 put-outcome-requires : tie.Need-put-outcome-requires
 put-outcome-requires c κs =

@@ -2,8 +2,8 @@
 use native.Mathlib.Omega.{arith}
 use borrow.Author.Needs.{needs}
 use borrow.Author.Tests.{lt-ltb, le-ltb}
-use Rattle.lowering.proofs.node_of.Statement.{statement}
-use Rattle.lowering.proofs.node_of.Tie as tie
+use Rattle.lowering_words.proofs.node_of.Statement.{statement}
+use Rattle.lowering_words.proofs.node_of.Tie as tie
 
 returns : tie.Need-returns
 returns c = (rw (lt-ltb 31 _ (c .if1 .taken)), omega arith)

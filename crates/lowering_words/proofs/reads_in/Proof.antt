@@ -2,9 +2,9 @@
 use native.Mathlib.Omega.{arith}
 use borrow.Author.Needs.{needs}
 use denote.Ref.{now}
-use Rattle.lowering.proofs.Words.{role-at, flow-at}
-use Rattle.lowering.proofs.reads_in.Statement.{statement}
-use Rattle.lowering.proofs.reads_in.Tie as tie
+use Rattle.lowering_words.proofs.Words.{role-at, flow-at}
+use Rattle.lowering_words.proofs.reads_in.Statement.{statement}
+use Rattle.lowering_words.proofs.reads_in.Tie as tie
 
 returns : tie.Need-returns
 returns c =

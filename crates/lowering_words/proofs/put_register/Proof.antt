@@ -2,8 +2,8 @@
 use native.Mathlib.Omega.{arith}
 use borrow.Author.Needs.{needs}
 use borrow.Author.Tests.{lt-ltb, le-ltb, eq-eqb, ne-eqb}
-use Rattle.lowering.proofs.put_register.Statement.{statement}
-use Rattle.lowering.proofs.put_register.Tie as tie
+use Rattle.lowering_words.proofs.put_register.Statement.{statement}
+use Rattle.lowering_words.proofs.put_register.Tie as tie
 
 returns : tie.Need-returns
 returns c = rw (eq-eqb _ 0 (c .if1 .taken))

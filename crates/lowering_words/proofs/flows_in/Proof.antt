@@ -3,9 +3,9 @@ use native.Mathlib.Omega.{arith}
 use borrow.Author.Needs.{needs}
 use denote.Ref.{now}
 use Rattle.roles.specs.Roles.{flowsIn}
-use Rattle.lowering.proofs.Words.{role-at}
-use Rattle.lowering.proofs.flows_in.Statement.{statement}
-use Rattle.lowering.proofs.flows_in.Tie as tie
+use Rattle.lowering_words.proofs.Words.{role-at}
+use Rattle.lowering_words.proofs.flows_in.Statement.{statement}
+use Rattle.lowering_words.proofs.flows_in.Tie as tie
 
 returns : tie.Need-returns
 unfolding flowsIn

@@ -3,11 +3,11 @@ use mathlib.Core.Path.{ap, _∙_}
 use denote.Ref.{now}
 use borrow.Author.Needs.{needs}
 use borrow.Author.Tests.{lt-ltb}
 use Rattle.lowering.specs.Lowering.{lent}
-use Rattle.lowering.specs.Words.{rolesIn, given, loweringWords}
-use Rattle.lowering.proofs.Words.{not-written, written}
-use Rattle.lowering.proofs.lower_words.Statement.{statement}
-use Rattle.lowering.proofs.lower_words.Tie as tie
+use Rattle.lowering_words.specs.Words.{rolesIn, given, loweringWords}
+use Rattle.lowering_words.proofs.Words.{not-written, written}
+use Rattle.lowering_words.proofs.lower_words.Statement.{statement}
+use Rattle.lowering_words.proofs.lower_words.Tie as tie
 
 returns : tie.Need-returns
 unfolding loweringWords

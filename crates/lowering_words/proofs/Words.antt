@@ -17,11 +17,12 @@ use Rattle.roles.specs.Roles as R
 use Rattle.roles.specs.Roles.{withFlows, withRegister, withOutcome}
 use Rattle.lowering_refusals.specs.declared.Counts.{Counts}
 use Rattle.lowering_refusals.specs.declared.State.{State}
 use Rattle.lowering.specs.declared.Parts.{Parts}
 use Rattle.lowering.specs.Lowering.{Lent, Answer, answer, loweringGiven}
-use Rattle.lowering.specs.Parts.{stateOf, rolesAfter, joined, nodeOf, flowOf, putFlows, putRegister, putOutcome}
-use Rattle.lowering.specs.Words.{role, place, rolesIn, stateIn, stateOut, withRoles, withState, given, givenBy, loweringWords}
+use Rattle.lowering.specs.Parts.{stateOf, rolesAfter, joined}
+use Rattle.lowering_words.specs.Places.{nodeOf, flowOf, putFlows, putRegister, putOutcome}
+use Rattle.lowering_words.specs.Words.{role, place, rolesIn, stateIn, stateOut, withRoles, withState, given, givenBy, loweringWords}
 use Rattle.lowering.proofs.Whole.{refused-kept}
 
 -- ---- one role
 

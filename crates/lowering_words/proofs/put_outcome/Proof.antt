@@ -1,8 +1,8 @@
 -- Each outcome sets its own flow, or none. Assumes nothing.
 use borrow.Author.Needs.{needs}
 use lib.ListN.{length-set}
-use Rattle.lowering.proofs.put_outcome.Statement.{statement}
-use Rattle.lowering.proofs.put_outcome.Tie as tie
+use Rattle.lowering_words.proofs.put_outcome.Statement.{statement}
+use Rattle.lowering_words.proofs.put_outcome.Tie as tie
 
 returns-2 : tie.Need-returns-2
 returns-2 c =

@@ -3,9 +3,9 @@ use mathlib.Core.Path.{refl}
 use native.Mathlib.Omega.{arith}
 use borrow.Author.Needs.{needs}
 use lib.ListN.{length-set}
-use Rattle.lowering.specs.Parts.{putFlows}
-use Rattle.lowering.proofs.put_flows.Statement.{statement}
-use Rattle.lowering.proofs.put_flows.Tie as tie
+use Rattle.lowering_words.specs.Places.{putFlows}
+use Rattle.lowering_words.proofs.put_flows.Statement.{statement}
+use Rattle.lowering_words.proofs.put_flows.Tie as tie
 
 returns : tie.Need-returns
 unfolding putFlows

@@ -1,9 +1,9 @@
 -- Two words. Assumes nothing.
 use borrow.Author.Needs.{needs}
-use Rattle.lowering.specs.Words.{stateIn}
+use Rattle.lowering_words.specs.Words.{stateIn}
 use mathlib.Core.Path.{refl}
-use Rattle.lowering.proofs.tally_in.Statement.{statement}
-use Rattle.lowering.proofs.tally_in.Tie as tie
+use Rattle.lowering_words.proofs.tally_in.Statement.{statement}
+use Rattle.lowering_words.proofs.tally_in.Tie as tie
 
 returns : tie.Need-returns
 unfolding stateIn

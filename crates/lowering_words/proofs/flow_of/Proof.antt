@@ -2,8 +2,8 @@
 use native.Mathlib.Omega.{arith}
 use borrow.Author.Needs.{needs}
 use borrow.Author.Tests.{lt-ltb, le-ltb, eq-eqb, ne-eqb}
-use Rattle.lowering.proofs.flow_of.Statement.{statement}
-use Rattle.lowering.proofs.flow_of.Tie as tie
+use Rattle.lowering_words.proofs.flow_of.Statement.{statement}
+use Rattle.lowering_words.proofs.flow_of.Tie as tie
 
 returns : tie.Need-returns
 returns c = (rw (eq-eqb _ 0 (c .if1 .taken)), omega arith)

@@ -9,9 +9,9 @@ use native.Mathlib.Omega.{arith}
 use borrow.Author.Needs.{needs}
 use denote.Ref.{now}
 use Rattle.roles.specs.Roles.{operandsFor}
-use Rattle.lowering.proofs.Words.{role-at, node-at}
-use Rattle.lowering.proofs.operands_in.Statement.{statement}
-use Rattle.lowering.proofs.operands_in.Tie as tie
+use Rattle.lowering_words.proofs.Words.{role-at, node-at}
+use Rattle.lowering_words.proofs.operands_in.Statement.{statement}
+use Rattle.lowering_words.proofs.operands_in.Tie as tie
 
 returns : tie.Need-returns
 unfolding operandsFor
