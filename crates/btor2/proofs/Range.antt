@@ -1,8 +1,8 @@
 -- In a list that meets the sort rule, a line of a sort has a value of that sort: below 2 to its width, or an array of such words.
 -- Assumes nothing.
-use Prim.Native.Nat.{ℕ, zero, suc, _+_, _%_, _^_, _≤_, _<_}
+use Prim.Native.Nat.{ℕ, zero, suc, _+_, _%_, _^_, _<_}
 use native.Mathlib.Nat.{mod-lt, lt-of-lt-of-le}
-use mathlib.Core.Path.{_≡_, refl, sym, _∙_, ap, subst}
+use mathlib.Core.Path.{_≡_, refl, sym, subst}
 use mathlib.Core.Bool.{Bool, true, false, cond, _&&_, _||_}
 use mathlib.Core.Bool as B
 use mathlib.Core.List.{List, [], _∷_, _++_}
@@ -18,7 +18,7 @@ use Rattle.btor2.specs.declared.NodeType.the-variants.{Bit, Word, Memory
 use Rattle.btor2.specs.Sort.{width, sameSort}
 use Rattle.btor2.specs.Op.{Bin, add, sub, mul, udiv, sdiv, urem, sll, srl, ult, Op, const, read, write, bin, uext, ite, eq, and, or, not, state, stateInit, next, input, bad, unknown, mapOp, carried, binSort}
 use Rattle.btor2.specs.Walk.{walk}
-use Rattle.btor2.specs.SortRule.{Mark, hasSort, is, bitOrWord, rule, isStateOp, Judged, judge, noLine, judged, allRight, meetsSortRule, lineIs}
+use Rattle.btor2.specs.SortRule.{hasSort, is, bitOrWord, rule, Judged, judge, noLine, judged, allRight, meetsSortRule, lineIs}
 use Rattle.btor2.specs.Value.{Value, number, array, store, binary, Env, ofSort, evalOp, values, value}
 use Rattle.btor2.proofs.Sort.{same-sort, width-small}
 use Rattle.btor2.proofs.SortRule.{both, right-next, mark-line}

@@ -4,8 +4,7 @@ use mathlib.Core.Path.{_≡_, refl, sym, ap, _∙_}
 use lib.Dec.{T, eqb→eq, lit≤}
 use Rattle.btor2.specs.declared.NodeType.{NodeType}
 use Rattle.btor2.specs.declared.NodeType.the-variants.{Bit, Word, Memory, Input1Byte, Input2Byte, Input3Byte, Input4Byte, Input5Byte, Input6Byte, Input7Byte}
-use Rattle.btor2.specs.declared.MaybeSort.{MaybeSort}
-use Rattle.btor2.specs.declared.MaybeSort.the-variants.{Sort, NoSort}
+use Rattle.btor2.specs.declared.MaybeSort.the-variants.{Sort}
 use Rattle.btor2.specs.Sort.{sortNumber, sortNumbered, width, sameSort}
 
 pub sort-back : (s : NodeType) → sortNumbered (sortNumber s) ≡ Sort s

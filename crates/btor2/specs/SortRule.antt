@@ -3,7 +3,7 @@ use Prim.Native.Nat.{ℕ, _^_}
 use mathlib.Core.Bool.{Bool, true, false, _&&_, _||_}
 use mathlib.Core.Bool as B
 use mathlib.Core.List.{List, [], _∷_}
-use lib.Dec.{T, ltb}
+use lib.Dec.{ltb}
 use lib.ListN.{getD}
 use Rattle.btor2.specs.declared.NodeType.{NodeType}
 use Rattle.btor2.specs.declared.NodeType.the-variants.{Bit, Word, Memory}

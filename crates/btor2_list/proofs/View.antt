@@ -1,8 +1,8 @@
 -- The view of the lent words: a put behind the last line adds that line and changes no other, and reading what was written gives it
 -- back. Assumes nothing.
-use Prim.Native.Nat.{ℕ, zero, suc, _+_, _*_, _/_, _≤_, _<_}
-use mathlib.Core.Path.{_≡_, refl, sym, ap, _∙_}
-use mathlib.Core.Bool.{Bool, true, false, cond}
+use Prim.Native.Nat.{ℕ, zero, suc, _+_, _*_, _≤_, _<_}
+use mathlib.Core.Path.{_≡_, refl, _∙_}
+use mathlib.Core.Bool.{true}
 use mathlib.Core.List.{List, [], _∷_, _++_}
 use mathlib.Core.Logic.{⊎-elim}
 use native.Mathlib.Omega.{arith}
@@ -10,12 +10,10 @@ use native.Mathlib.Nat.{add-zero, eq-or-lt-of-le}
 use native.Mathlib.Numerals.{add-one}
 use lib.ListN.{length, getD, length-append, List·getD-append}
 use lib.Seq.{getD-append-add}
-use Rattle.btor2.specs.declared.NodeType.{NodeType}
-use Rattle.btor2.specs.Op.{Bin, add, sub, mul, udiv, sdiv, urem, sll, srl, ult, Op, const, read, write, bin, uext, ite, eq, and, or, not, state, stateInit, next, input, bad, unknown}
-use Rattle.btor2.specs.Sort.{sortNumber, sortNumbered}
+use Rattle.btor2.specs.Op.{add, sub, mul, udiv, sdiv, urem, sll, srl, ult, Op, const, read, write, bin, uext, ite, eq, and, or, not, state, stateInit, next, input, bad, unknown}
 use Rattle.btor2.proofs.Sort.{sort-back}
 use Rattle.btor2_list.specs.declared.Line.{Line}
-use Rattle.btor2_list.specs.Record.{stride, words, lineAt, holds, putAt}
+use Rattle.btor2_list.specs.Record.{stride, lineAt, holds, putAt}
 use Rattle.btor2_list.specs.Node.{Node, node, lineOf, opOf, nodeOf}
 use Rattle.btor2_list.specs.View.{view}
 use Rattle.btor2_list.proofs.Stored.{put-line, put-other}

@@ -1,9 +1,9 @@
 -- The operators that the builder composes, line by line as unicorn's functions of these names do.
-use Prim.Native.Nat.{ℕ, _^_}
+use Prim.Native.Nat.{_^_}
 use mathlib.Core.Bool.{Bool, true, false}
 use Rattle.btor2.specs.declared.NodeType.the-variants.{Bit}
 use Rattle.btor2.specs.Op.{add, sub, sll, srl, ult}
-use Rattle.program.specs.Prog.{Prog, done, _>>=_}
+use Rattle.program.specs.Prog.{Prog, _>>=_}
 use Rattle.program.specs.OneLine.{newConst, newBin, newIte, newEq, newAndBit, newAndWord, newNotBit, newNotWord}
 
 module _ {A : Type 0} where

@@ -1,9 +1,8 @@
 -- Call by call: what is lent with each is what stands there. Assumes nothing.
 use Prim.Native.Nat.{ℕ, zero, suc, _+_, _*_}
-use mathlib.Core.Path.{_≡_, refl, sym, ap, ap₂, _∙_}
-use mathlib.Core.Bool.{Bool, true, false, cond}
+use mathlib.Core.Path.{_≡_, refl, ap, ap₂, _∙_}
+use mathlib.Core.Bool.{Bool, true, false}
 use mathlib.Core.List.{List, [], _∷_, _++_}
-use native.Mathlib.Omega.{arith}
 use borrow.Author.Tests.{eq-eqb, eqb-true, eqb-false}
 use lib.Dec.{eqb}
 use lib.ListN.{length, take, drop}
@@ -12,7 +11,7 @@ use Rattle.lowering_refusals.specs.declared.State.{State}
 use Rattle.lowering.specs.Lowering.{Lent, lent, Answer, lowering}
 use Rattle.lowering_all.specs.All as Many
 use Rattle.lowering_all.specs.All.{AnswerAll, answerAll, loweringOn}
-use Rattle.demand.specs.Calls.{Held, Request, lower, inFront, lentFor, stateFor, answerTo, accepted, step, run}
+use Rattle.demand.specs.Calls.{Held, lower, inFront, lentFor, stateFor, answerTo, accepted, step, run}
 use Rattle.demand_all.specs.Many.{held, request, requests, ManyAreRun}
 
 front-self : (n : ℕ) (ws : List ℕ) → take (length ws) (take n ws) ++ drop (length (take n ws)) ws ≡ ws

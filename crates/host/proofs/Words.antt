@@ -3,7 +3,7 @@ use Prim.Native.Nat.{ℕ, suc, _+_, _≤_, _<_}
 use native.Mathlib.Nat.{le-of-lt}
 use native.Mathlib.Numerals.{add-one}
 use native.Mathlib.Omega.{arith}
-use mathlib.Core.Path.{_≡_, refl, sym, ap, _∙_}
+use mathlib.Core.Path.{_≡_, sym, ap, _∙_}
 use mathlib.Core.List.{List, _++_, map, append-nil}
 use lib.ListN.{length, getD, set, take, drop, length-drop, drop-of-length-le, length-map, List·getD-map}
 use lib.Seq.{getD-drop, drop-cons, set-at, append-snoc, take-suc, length-take-le}

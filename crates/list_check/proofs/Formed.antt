@@ -12,9 +12,9 @@ use Rattle.btor2.specs.declared.MaybeSort.{MaybeSort}
 use Rattle.btor2.specs.declared.MaybeSort.the-variants.{Sort, NoSort}
 use Rattle.btor2.specs.Op.{Op, unknown, carried}
 use Rattle.btor2_list.specs.Record.{stride, lineAt}
-use Rattle.btor2_list.specs.Node.{Node, node, opOf, nodeOf}
+use Rattle.btor2_list.specs.Node.{Node, node, opOf}
 use Rattle.btor2_list.specs.View.{view}
-use Rattle.btor2_list.specs.Look.{seenAs, lookAt}
+use Rattle.btor2_list.specs.Look.{seenAs}
 use Rattle.btor2_list.proofs.View.{view-length, view-at}
 use Rattle.list_check.specs.Lines.{ops, opAt, some, any, pastWords}
 use Rattle.list_check.specs.Formed.{isUnknown, extFromMemory, operands, nameOf, nameOutside, hasValue, earlierValue, opUnformed, lineUnformed, unformed, unformedWords}

@@ -5,7 +5,6 @@ use mathlib.Core.Bool.{Bool, true, false, cond}
 use mathlib.Core.List.{List}
 use native.Mathlib.Omega.{arith}
 use Rattle.btor2_list.specs.declared.Line.{Line}
-use Rattle.btor2_list.specs.declared.Found.{Found}
 use Rattle.btor2_list.specs.declared.Found.the-variants.{Line as at, Outside}
 use Rattle.btor2_list.specs.Record.{stride, holds, lineAt, getAt}
 

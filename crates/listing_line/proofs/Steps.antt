@@ -1,6 +1,6 @@
 -- What one more byte says of a scan of bytes: each lemma is a turn of a loop at index i, or its end. Assumes nothing.
 use Prim.Native.Nat.{ℕ, zero, suc, _+_, _-_, _*_, _^_, _≤_, _<_}
-use mathlib.Core.Path.{_≡_, refl, sym, ap, subst, _∙_}
+use mathlib.Core.Path.{_≡_, refl, sym, ap, _∙_}
 use mathlib.Core.Bool.{Bool, true, false, cond, not, _&&_}
 use mathlib.Core.List.{List, [], _∷_}
 use native.Mathlib.Nat.{le-refl, le-of-eq, le-of-suc-le-suc, not-suc-le-zero, suc-ne-zero}
@@ -8,13 +8,12 @@ use native.Mathlib.Numerals.{add-one, sub-one}
 use native.Mathlib.Omega.{arith}
 use lib.Dec.{ltb, leb, eqb}
 use lib.Pow.{pow-add, pow-mono}
-use lib.ListN.{length, getD, take, drop, drop-of-length-le, length-take, length-drop, List·getD-eq-default}
+use lib.ListN.{length, getD, take, drop, drop-of-length-le, length-drop, List·getD-eq-default}
 use lib.Seq.{drop-cons, drop-drop, getD-drop, take-all}
-use borrow.Author.Tests.{eq-eqb, ne-eqb, eqb-true, eqb-false, ltb-true, lt-ltb, le-ltb, lt-leb, le-leb}
-use Rattle.listing_line.specs.Text.{all, onFirst, split, before, digit, decimal, onward, value, number}
+use borrow.Author.Tests.{eq-eqb, ne-eqb, eqb-true, eqb-false, lt-ltb, le-ltb, lt-leb, le-leb}
+use Rattle.listing_line.specs.Text.{all, onFirst, split, before, digit, decimal, onward, number}
 use Rattle.listing_line.specs.Line.{letter, letters, negative, immediate}
 use Rattle.listing_line.specs.Inside.{packed}
-use Rattle.listing_line.specs.declared.Number.{Number}
 use Rattle.listing_line.specs.declared.Number.the-variants.{Value, NotOne}
 
 and-true : (t : Bool) → (t && true) ≡ t

@@ -1,12 +1,10 @@
 -- What only the contracts of private functions cite.
-use Prim.Native.Nat.{ℕ, _+_, _*_, _<_}
-use mathlib.Core.Bool.{Bool, cond}
+use Prim.Native.Nat.{ℕ, _+_, _*_}
+use mathlib.Core.Bool.{Bool}
 use mathlib.Core.List.{List, [], _∷_, map}
-use lib.Dec.{eqb}
 use Rattle.listing_line.specs.Kinds.{names}
 use Rattle.listing_line.specs.Line.{_>>_, _>>=_}
 use Rattle.listing_line.specs.declared.Number.{Number}
-use Rattle.listing_line.specs.declared.Number.the-variants.{Value, NotOne}
 use Rattle.listing_line.specs.declared.Parsed.{Parsed}
 use Rattle.listing_line.specs.declared.Parsed.the-variants.{Instruction}
 

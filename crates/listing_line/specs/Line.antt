@@ -1,9 +1,9 @@
 -- A line of the listing program's input (document 01, "The listing program has its own start").
 use Prim.Native.Nat.{ℕ, _+_, _-_, _^_}
-use mathlib.Core.Bool.{Bool, true, false, cond, not, _&&_, _||_}
+use mathlib.Core.Bool.{Bool, true, false, cond, _&&_, _||_}
 use mathlib.Core.List.{List, [], _∷_}
 use lib.Dec.{ltb, leb, eqb}
-use lib.ListN.{length, getD, take, drop}
+use lib.ListN.{length, getD}
 use Rattle.listing_line.specs.Text.{all, split, number}
 use Rattle.listing_line.specs.Kinds.{kindCode}
 use Rattle.listing_line.specs.declared.Number.{Number}

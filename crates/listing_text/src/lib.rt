@@ -1,7 +1,6 @@
 // The listing's remarks: edges, dispatches and refusals as text.
 use btor2::NodeRef;
 use line_text::nid_at;
-ghost use mathlib.Core.Path.{_≡_};
 ghost use Rattle.line_text.specs.Line.{nodes};
 ghost use Rattle.word_text.specs.Words.{ascii};
 ghost use Rattle.text.specs.Put.{Put};

@@ -1,12 +1,11 @@
 -- What was not refused has room, so the counts after it fit. Assumes nothing.
 use Prim.Native.Nat.{ℕ, _+_, _≤_, _<_, _^_}
 use mathlib.Core.Path.{_≡_, refl, sym, _∙_}
-use mathlib.Core.Bool.{Bool, true, false, cond, not, _||_}
+use mathlib.Core.Bool.{Bool, true, false, cond, not}
 use mathlib.Core.List.{List, [], _∷_}
 use native.Mathlib.Omega.{arith}
-use borrow.Author.Tests.{ltb-false, ne-eqb}
+use borrow.Author.Tests.{ltb-false}
 use lib.Dec.{eqb, ltb}
-use lib.ListN.{length}
 use Rattle.builder.specs.declared.Tally.{Tally}
 use Rattle.instruction_class.specs.Class.{class}
 use Rattle.riscv.specs.declared.Instruction.{Instruction}
@@ -15,11 +14,10 @@ use Rattle.riscv.specs.Refusal.{refusal, first}
 use Rattle.riscv.proofs.First.{Tests}
 use Rattle.lowering_refusals.specs.declared.Counts.{Counts}
 use Rattle.lowering_refusals.specs.declared.Room.{Room}
-use Rattle.lowering_refusals.specs.Bounds.{Within}
 use Rattle.lowering_refusals.specs.Refusal.{roomOf, countsOut, needsOf, roomOut, flagOut, refusalGiven}
 use Rattle.lowering_refusals.proofs.Tests.{from8, from7, fromRecord, from13}
 use Rattle.lowering_refusals.proofs.Within.{neither, within}
-use Rattle.lowering.specs.Sums.{Added, Sums}
+use Rattle.lowering.specs.Sums.{Sums}
 
 -- the roles fit where the check says that none is out
 pub flipped : (a b : Bool) → a ≡ not b → b ≡ not a

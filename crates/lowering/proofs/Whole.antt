@@ -9,7 +9,6 @@ use Rattle.program.specs.Prog.{exec}
 use Rattle.builder.specs.declared.Tally.{Tally}
 use Rattle.builder.specs.Append.{at, append}
 use Rattle.riscv.specs.declared.Instruction.{Instruction}
-use Rattle.roles.specs.Roles.{operandsFor, flowsIn}
 use Rattle.lowering_refusals.specs.declared.Counts.{Counts}
 use Rattle.lowering_refusals.specs.declared.State.{State}
 use Rattle.lowering_refusals.specs.Refusal.{refusalGiven}

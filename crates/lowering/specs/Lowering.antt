@@ -1,7 +1,7 @@
 -- One call: refused, all is as it was; accepted, the lines of the instruction's program behind the others, the flows that it sets, its edges,
 -- dispatch or bad.
 use Prim.Native.Nat.{ℕ, _+_}
-use mathlib.Core.Bool.{Bool, true, false, cond, _&&_}
+use mathlib.Core.Bool.{Bool, true, false, cond}
 use mathlib.Core.List.{List, [], _∷_}
 use lib.Dec.{eqb}
 use lib.ListN.{length}
@@ -10,7 +10,6 @@ use Rattle.btor2.specs.declared.Name.{Name}
 use Rattle.btor2.specs.declared.NodeRef.{NodeRef}
 use Rattle.btor2_list.specs.Node.{noName}
 use Rattle.program.specs.Prog.{Prog, Run, exec}
-use Rattle.builder.specs.declared.Tally.{Tally}
 use Rattle.builder.specs.Append.{Store, at, append}
 use Rattle.instruction_class.specs.declared.Class.{Class}
 use Rattle.instruction_class.specs.declared.Class.the-variants.{Plain, Access, Addition, Branch, Jump, Indirect, Call}

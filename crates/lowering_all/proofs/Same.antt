@@ -1,7 +1,7 @@
 -- The calls over words are the calls by `lowering`: the roles fit behind each accepted one, and words that a state is put into hold it.
 -- Assumes nothing.
 use Prim.Native.Nat.{ℕ, zero, suc, _+_, _/_, _≤_}
-use mathlib.Core.Path.{_≡_, refl, sym, ap, subst, _∙_}
+use mathlib.Core.Path.{_≡_, refl, sym, ap, _∙_}
 use mathlib.Core.Bool.{Bool, true, false}
 use mathlib.Core.List.{List, [], _∷_, _++_, map}
 use native.Mathlib.Omega.{arith}
@@ -13,7 +13,7 @@ use Rattle.btor2.specs.declared.NodeRef.{NodeRef}
 use Rattle.roles.specs.Roles.{rolesFit}
 use Rattle.lowering_refusals.specs.declared.State.{State}
 use Rattle.lowering_refusals.specs.Refusal.{refusalOf}
-use Rattle.lowering.specs.Lowering.{Lent, Answer, roomIn, loweringGiven, lowering}
+use Rattle.lowering.specs.Lowering.{Lent, Answer, roomIn, lowering}
 use Rattle.lowering_words.specs.Words.{role, place, rolesIn, stateIn, stateOut, withState, Given, givenBy, loweringWords}
 use Rattle.lowering_words.proofs.Words.{state-kept}
 use Rattle.roles_kept.proofs.Passed.{roles-in}

@@ -1,11 +1,8 @@
 -- The lines of a call, and what they give, are its kind's template with the state's roles and the lines' places put in. Assumes nothing.
 use Prim.Native.Nat.{ℕ}
-use mathlib.Core.Path.{_≡_, sym, ap, _∙_}
-use mathlib.Core.List.{map}
+use mathlib.Core.Path.{_≡_, sym, _∙_}
 use lib.Dec.{eqb}
-use Rattle.btor2.specs.declared.Name.{Name}
 use Rattle.btor2.specs.declared.NodeRef.{NodeRef}
-use Rattle.btor2.specs.Op.{mapOp}
 use Rattle.instruction_class.specs.Class.{class}
 use Rattle.models.specs.Model.{constantOf}
 use Rattle.riscv.specs.declared.Instruction.{Instruction}

@@ -2,13 +2,12 @@
 use Prim.Native.Nat.{ℕ, _≤_}
 use mathlib.Core.Path.{_≡_, refl}
 use mathlib.Core.Bool.{Bool, true, false}
-use mathlib.Core.List.{List}
 use native.Mathlib.Omega.{arith}
 use lib.ListN.{length}
 use Rattle.btor2.specs.declared.Name.{Name}
 use Rattle.instruction_class.specs.Class.{lineCount}
 use Rattle.riscv.specs.Kind.{Kind, Lui, Auipc, Lb, Lh, Lw, Ld, Lbu, Lhu, Sb, Sh, Sw, Sd, Addi, Sltiu, Xori, Ori, Andi, Slli, Srli, Srai, Addiw, Slliw, Srliw, Sraiw, Add, Sub, Sll, Sltu, Srl, Sra, Or, And, Mul, Div, Divu, Remu, Addw, Divw, Subw, Sllw, Mulw, Beq, Bne, Blt, Bge, Bltu, Bgeu, Jal, Jalr, Ecall}
-use Rattle.lowering_laws.proofs.EachKind.{Reading, reading}
+use Rattle.lowering_laws.proofs.EachKind.{reading}
 use Rattle.models.specs.Places.{Operands, Flows}
 
 module _ {A : Type 0} (at : ℕ → A) (e : Operands A) (f : Flows A) (r m : A) (imm : ℕ) (name : Name) where

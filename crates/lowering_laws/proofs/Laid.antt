@@ -1,6 +1,6 @@
 -- A program that has room puts its lines behind those that stand, one after the other, and changes nothing else. One induction, for every
 -- program. Assumes nothing.
-use Prim.Native.Nat.{ℕ, suc, _+_, _*_, _/_, _%_, _^_, _≤_, _<_}
+use Prim.Native.Nat.{ℕ, suc, _+_, _*_, _/_, _^_, _≤_, _<_}
 use mathlib.Core.Path.{_≡_, refl, sym, _∙_, ap, subst}
 use mathlib.Core.Bool.{true}
 use mathlib.Core.List.{List, [], _∷_, _++_, append-assoc, append-nil}
@@ -10,7 +10,7 @@ use borrow.Author.Tests.{lt-ltb}
 use lib.ListN.{length, getD}
 use Rattle.btor2.specs.Op.{Op}
 use Rattle.btor2_list.specs.Record.{stride, holds, putAt}
-use Rattle.btor2_list.specs.Node.{Node, node, nodeOf, lineOf}
+use Rattle.btor2_list.specs.Node.{Node, node, lineOf}
 use Rattle.btor2_list.specs.View.{view}
 use Rattle.btor2_list.proofs.Stored.{put-length, put-elsewhere-below, put-elsewhere-above}
 use Rattle.btor2_list.proofs.View.{node-back, view-put}

@@ -1,24 +1,21 @@
 -- One call: refused, all stays; accepted, the instruction's lines stand behind the others and all else stays. Assumes nothing.
-use Prim.Native.Nat.{ℕ, _+_, _*_, _/_, _^_, _≤_, _<_}
+use Prim.Native.Nat.{ℕ, _+_, _^_, _≤_}
 use mathlib.Core.Path.{_≡_, refl, sym, ap, subst, _∙_}
-use mathlib.Core.List.{List}
 use native.Mathlib.Omega.{arith}
 use native.Mathlib.Nat.{add-zero}
 use borrow.Author.Tests.{ltb-false, ne-eqb}
 use lib.Dec.{eqb, ltb}
 use lib.ListN.{length}
 use Rattle.btor2.specs.declared.NodeRef.{NodeRef}
-use Rattle.btor2_list.specs.Record.{stride}
 use Rattle.program.specs.Prog.{exec}
 use Rattle.builder.specs.Append.{at, append}
-use Rattle.instruction_class.specs.Class.{class, lineCount}
-use Rattle.models.specs.Code.{operandsOf, flowsOf}
+use Rattle.instruction_class.specs.Class.{class}
 use Rattle.riscv.specs.declared.Instruction.{Instruction}
 use Rattle.riscv.specs.Kind.{kindAt}
 use Rattle.lowering_refusals.specs.declared.State.{State}
 use Rattle.lowering_refusals.specs.Refusal.{roomOf, countsOut, refusalOf}
 use Rattle.lowering_refusals.proofs.Within.{neither}
-use Rattle.lowering.specs.Lowering.{Lent, Answer, aside, programOf, settled, roomIn, refused, loweringGiven, lowering}
+use Rattle.lowering.specs.Lowering.{Lent, aside, programOf, settled, roomIn, refused, loweringGiven, lowering}
 use Rattle.lowering.proofs.Accepted as A
 use Rattle.lowering_laws.specs.Lines.{linesOf, behind}
 use Rattle.lowering_laws.specs.Accepted.{growth, Accepted}

@@ -1,6 +1,6 @@
 -- The refusals of a lowering (document 01, "Who can be refused, and with what"): "a lowering 9, 13, then 1 to 8. First match wins."
-use Prim.Native.Nat.{ℕ, _+_, _*_, _/_, _^_, _≤_}
-use mathlib.Core.Bool.{Bool, true, false, cond, not, _&&_, _||_}
+use Prim.Native.Nat.{ℕ, _+_, _/_, _^_}
+use mathlib.Core.Bool.{Bool, true, false, not, _&&_, _||_}
 use mathlib.Core.List.{List, [], _∷_}
 use lib.Dec.{eqb, ltb}
 use lib.ListN.{length}
@@ -9,7 +9,6 @@ use Rattle.builder.specs.declared.Tally.{Tally}
 use Rattle.instruction_class.specs.declared.Class.{Class}
 use Rattle.instruction_class.specs.declared.Class.the-variants.{Plain, Access, Addition, Branch, Jump, Indirect, Call}
 use Rattle.instruction_class.specs.Class.{class, plainCount, countOf, needsFlag}
-use Rattle.edges.specs.Edges.{edgeCount}
 use Rattle.riscv.specs.declared.Instruction.{Instruction}
 use Rattle.riscv.specs.Kind.{Kind, kindAt}
 use Rattle.riscv.specs.Refusal.{refusal, first}

@@ -1,9 +1,9 @@
 -- The state as 85 words that a host keeps, and a call over them.
 use Prim.Native.Nat.{ℕ, _+_}
 use mathlib.Core.Bool.{Bool, cond}
-use mathlib.Core.List.{List, [], _∷_, _++_, map}
-use lib.Dec.{eqb, ltb}
-use lib.ListN.{length, getD, set, take, drop}
+use mathlib.Core.List.{List, _∷_, _++_, map}
+use lib.Dec.{ltb}
+use lib.ListN.{length, getD, take, drop}
 use Rattle.btor2.specs.declared.NodeRef.{NodeRef}
 use Rattle.models.specs.Places as P
 use Rattle.riscv.specs.declared.Instruction.{Instruction}

@@ -1,5 +1,5 @@
 -- One identifier after the other, one line after the other. Assumes nothing.
-use Prim.Native.Nat.{ℕ, _+_, _*_, _/_, _≤_, _<_}
+use Prim.Native.Nat.{ℕ, _+_, _*_, _≤_, _<_}
 use mathlib.Core.Path.{_≡_, refl, sym, _∙_, ap}
 use mathlib.Core.Bool.{Bool, true, false, cond, not, _&&_, _||_, or-true, true≢false, false≢true}
 use mathlib.Core.List.{List, [], _∷_, _++_}
@@ -7,7 +7,7 @@ use native.Mathlib.Numerals.{add-one}
 use native.Mathlib.Omega.{arith}
 use borrow.Author.Tests.{lt-ltb, le-ltb, le-leb, lt-leb}
 use lib.Dec.{leb, ltb}
-use lib.ListN.{length, getD, drop, drop-of-length-le}
+use lib.ListN.{length, drop, drop-of-length-le}
 use lib.Seq.{drop-cons}
 use Rattle.bitvec.proofs.Base.{by-le}
 use Rattle.btor2.specs.Op.{unknown}
@@ -16,9 +16,8 @@ use Rattle.btor2_list.specs.Node.{Node, node, nodeOf}
 use Rattle.btor2_list.specs.View.{view}
 use Rattle.btor2_list.proofs.View.{view-length, view-at}
 use Rattle.list_check.specs.Lines.{any}
-use Rattle.nid_check.specs.declared.Rise.{Rise}
 use Rattle.nid_check.specs.declared.Rise.the-variants.{To, Out}
-use Rattle.nid_check.specs.Identifiers.{hasInit, takenBy, taken, rising, reserved, nidsOut}
+use Rattle.nid_check.specs.Identifiers.{hasInit, takenBy, taken, rising, reserved}
 use Rattle.nid_check.specs.Inside.{nidOut, riseOf}
 
 -- the identifiers behind `last` break the rule

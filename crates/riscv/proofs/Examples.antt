@@ -1,5 +1,5 @@
 -- The manual, worked at some corners. Assumes nothing.
-use Prim.Native.Nat.{ℕ, _+_, _-_, _*_, _^_}
+use Prim.Native.Nat.{ℕ, _+_, _-_, _^_}
 use mathlib.Core.Path.{_≡_, refl}
 use mathlib.Core.Bool.{cond}
 use lib.Dec.{eqb}
@@ -7,7 +7,7 @@ use Rattle.bitvec.specs.Smtlib.{negative}
 use Rattle.bitvec.specs.TwosComplement.{sext, sra, signed, bitsOf, quot}
 use Rattle.bitvec.specs.Bytes.{byteOf, load, store}
 use Rattle.riscv.specs.Kind.{Lui, Auipc, Lh, Sraiw, Srliw, Div, Divw, Jal}
-use Rattle.riscv.specs.Manual.{Effect, setsRd, loadAt, storeAt, manual}
+use Rattle.riscv.specs.Manual.{setsRd, loadAt, storeAt, manual}
 use Rattle.riscv.specs.Memory.{bytesOf, cellsWith}
 
 abbrev empty : ℕ → ℕ

@@ -2,7 +2,7 @@
 -- memory, counter and counter maximum nodes; 32 register nodes; 31 register flows; memory, counter and counter maximum flows; division,
 -- remainder and access flows; addition and multiplication overflow flows; ecall flow.
 use Prim.Native.Nat.{ℕ, _+_}
-use mathlib.Core.Bool.{Bool, true, cond, _&&_, _||_}
+use mathlib.Core.Bool.{Bool, true, cond, _&&_}
 use mathlib.Core.List.{List, [], _∷_}
 use lib.Dec.{eqb, ltb}
 use lib.ListN.{getD, set}

@@ -6,7 +6,7 @@ use mathlib.Core.List.{List}
 use lib.Dec.{ltb}
 use Rattle.btor2.specs.declared.MaybeSort.{MaybeSort}
 use Rattle.btor2.specs.declared.MaybeSort.the-variants.{Sort, NoSort}
-use Rattle.btor2.specs.Op.{Op, carried}
+use Rattle.btor2.specs.Op.{carried}
 use Rattle.btor2.specs.SortRule.{markOf, noLine}
 use Rattle.btor2_list.specs.declared.Looked.{Looked}
 use Rattle.btor2_list.specs.declared.Looked.the-variants.{Outside, NoValue, Value}

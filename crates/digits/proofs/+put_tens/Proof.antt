@@ -6,7 +6,7 @@ use borrow.Author.Needs.{needs}
 use borrow.Fn.Kinds.{In}
 use borrow.Fn.PlainCycle.{Measures, is, falls, and}
 use Rattle.text.specs.Numeral.{numeral}
-use Rattle.text.proofs.Laws.{then, put-as, put-length, numeral-one, numeral-more}
+use Rattle.text.proofs.Laws.{then, put-as, numeral-one, numeral-more}
 use Rattle.digits.proofs.put_tens.Reads as put-tens
 use Rattle.digits.proofs.put_tens.Kinds as put-tens-kinds
 use Rattle.digits.proofs.+put_tens.Lts-put_tens as put-tens-lts

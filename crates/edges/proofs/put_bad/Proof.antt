@@ -1,8 +1,5 @@
 -- The test by division is that of the definition, and keeps the writes in bounds. Assumes nothing.
-use native.Mathlib.Omega.{arith}
-use native.Mathlib.Numerals.{suc-eq-add-one}
-use native.Mathlib.Nat.{add-assoc, mul-one, div-one}
-use lib.ListN.{length-set}
+use native.Mathlib.Nat.{mul-one, div-one}
 use borrow.Author.Tests.{lt-ltb, le-ltb}
 use borrow.Author.Needs.{needs}
 use Rattle.edges.proofs.put_bad.Statement.{statement}

@@ -1,7 +1,7 @@
 -- The test by division is that of the definition, and keeps the writes in bounds. Assumes nothing.
 use native.Mathlib.Omega.{arith}
 use native.Mathlib.Numerals.{suc-eq-add-one}
-use native.Mathlib.Nat.{add-assoc, mul-one, div-one}
+use native.Mathlib.Nat.{add-assoc}
 use lib.ListN.{length-set}
 use borrow.Author.Tests.{lt-ltb, le-ltb}
 use borrow.Author.Needs.{needs}

@@ -3,10 +3,7 @@ use Prim.Native.Nat.{_+_, _/_, _≤_}
 use denote.Ref.{now}
 use lib.ListN.{length}
 use native.Mathlib.Omega.{arith}
-use native.Mathlib.Numerals.{suc-eq-add-one}
-use native.Mathlib.Nat.{add-assoc, mul-one, div-one}
-use lib.ListN.{length-set}
-use borrow.Author.Tests.{lt-ltb, le-ltb}
+use borrow.Author.Tests.{le-ltb}
 use borrow.Author.Needs.{needs}
 use Rattle.edges.proofs.put_second.Statement.{statement}
 use Rattle.edges.proofs.put_second.Tie as tie

@@ -1,12 +1,11 @@
 -- The table holds the definition's counts: antt computes them. Assumes nothing.
 use Prim.Native.Nat.{ℕ, _≤_, _<_}
-use mathlib.Core.Path.{_≡_}
 use mathlib.Core.Bool.{Bool}
 use native.Mathlib.Omega.{arith}
 use borrow.Author.Needs.{needs}
 use lib.Dec.{leb, leb→le}
 use Rattle.riscv.specs.Kind.{kindAt}
-use Rattle.bitvec.proofs.Below.{allBelow, at, tabulated}
+use Rattle.bitvec.proofs.Below.{at, tabulated}
 use Rattle.instruction_class.specs.Class.{plainCount}
 use Rattle.instruction_class.proofs.count_at.Statement.{statement}
 use Rattle.instruction_class.proofs.count_at.Tie as tie

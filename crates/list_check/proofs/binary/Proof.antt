@@ -1,5 +1,5 @@
 -- Each of the kinds.  Assumes nothing.
-use mathlib.Core.Path.{_≡_, refl, sym}
+use mathlib.Core.Path.{sym}
 use mathlib.Core.Bool.{true, true≢false}
 use Rattle.btor2_list.specs.Node.{opOf}
 use Rattle.list_check.specs.Formed.{opUnformed}

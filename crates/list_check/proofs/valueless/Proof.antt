@@ -1,6 +1,6 @@
 -- One arm for each kind; the last has ruled out all 22. Assumes nothing.
 use Prim.Native.Nat.{ℕ}
-use mathlib.Core.Path.{_≡_, refl, sym, _∙_}
+use mathlib.Core.Path.{_≡_, refl, _∙_}
 use mathlib.Core.Bool.{Bool, true, false, cond}
 use mathlib.Core.Bool as B
 use lib.Dec.{eqb}

@@ -1,7 +1,6 @@
 -- A record that the slice holds, or nothing. Assumes nothing.
 use mathlib.Core.Path.{refl}
 use native.Mathlib.Omega.{arith}
-use Rattle.text.proofs.Laws.{put-as}
 use borrow.Author.Tests.{lt-ltb, le-ltb}
 use Rattle.listing_text.specs.Remarks.{dispatchAt}
 use borrow.Author.Needs.{needs}

@@ -1,10 +1,9 @@
 -- The records so far are put. Assumes nothing.
-use Prim.Native.Nat.{ℕ, _-_, _≤_}
+use Prim.Native.Nat.{_-_, _≤_}
 use mathlib.Core.Path.{_≡_, refl, sym, ap}
 use denote.Ref.{now}
 use native.Mathlib.Omega.{arith}
 use native.Mathlib.Numerals.{add-one}
-use Rattle.line_text.specs.Line.{nodes}
 use Rattle.text.specs.Put.{Put}
 use Rattle.text.proofs.Laws.{then, put-as, put-length}
 use Rattle.listing_text.specs.Remarks.{dispatchesText}

@@ -1,5 +1,5 @@
 -- The records so far are put. Assumes nothing.
-use Prim.Native.Nat.{ℕ, _-_, _≤_}
+use Prim.Native.Nat.{_-_, _≤_}
 use mathlib.Core.Path.{_≡_, refl, sym, ap}
 use denote.Ref.{now}
 use native.Mathlib.Omega.{arith}

@@ -1,6 +1,5 @@
 -- Under x0 a name and a bad, else a dispatch. Assumes nothing.
 use borrow.Author.Needs.{needs}
-use Rattle.text.proofs.Laws.{put-length}
 use Rattle.lowering.proofs.put_indirect.Statement.{statement}
 use Rattle.lowering.proofs.put_indirect.Tie as tie
 

@@ -1,5 +1,5 @@
 -- A flag is looked at where it is needed. Assumes nothing.
-use mathlib.Core.Path.{ap, sym, _∙_}
+use mathlib.Core.Path.{sym, _∙_}
 use borrow.Author.Needs.{needs}
 use Rattle.lowering_refusals.specs.Refusal.{flagOut}
 use Rattle.lowering_refusals.proofs.flag_out.Statement.{statement}

@@ -1,5 +1,4 @@
 -- One store, where there is a flow. Assumes nothing.
-use native.Mathlib.Omega.{arith}
 use borrow.Author.Needs.{needs}
 use borrow.Author.Tests.{lt-ltb, le-ltb, eq-eqb, ne-eqb}
 use Rattle.lowering_words.proofs.put_register.Statement.{statement}

@@ -1,5 +1,4 @@
 -- The tests are the definition's. Assumes nothing.
-use native.Mathlib.Omega.{arith}
 use borrow.Author.Tests.{lt-ltb, le-ltb, le-leb, lt-leb}
 use Rattle.nid_check.proofs.is_reserved.Statement.{statement}
 use Rattle.nid_check.proofs.is_reserved.Tie as tie

@@ -1,5 +1,5 @@
 -- A record that the words hold is read and tested. Assumes nothing.
-use mathlib.Core.Path.{_≡_, sym, _∙_}
+use mathlib.Core.Path.{sym, _∙_}
 use denote.Ref.{now}
 use borrow.Author.Needs.{needs}
 use Rattle.list_check.proofs.Found.{found, not-found}

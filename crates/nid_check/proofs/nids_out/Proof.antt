@@ -1,7 +1,6 @@
 -- The identifiers from this line on break the rule where all do, as long as those before did not. Assumes nothing.
 use Prim.Native.Nat.{_≤_, _<_, _*_, _/_, _-_}
 use mathlib.Core.Path.{_≡_, refl, sym, _∙_}
-use mathlib.Core.Bool.{cond}
 use denote.Ref.{now}
 use native.Mathlib.Omega.{arith}
 use borrow.Author.Needs.{needs}

@@ -1,6 +1,6 @@
 -- The first identifier, then the second where there is one. Assumes nothing.
 use Prim.Native.Nat.{ℕ, _<_}
-use mathlib.Core.Path.{_≡_, refl, sym, _∙_}
+use mathlib.Core.Path.{_≡_, sym, _∙_}
 use mathlib.Core.Bool.{Bool, true, false, _||_, true≢false}
 use borrow.Author.Needs.{needs}
 use borrow.Author.Tests.{leb-false}

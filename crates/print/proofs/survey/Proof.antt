@@ -1,5 +1,5 @@
 -- The lines before this one are sound, and there is room for their names. Assumes nothing.
-use Prim.Native.Nat.{_+_, _-_, _^_, _<_, _≤_}
+use Prim.Native.Nat.{_-_, _^_, _<_, _≤_}
 use mathlib.Core.Path.{_≡_, refl}
 use denote.Ref.{now}
 use native.Mathlib.Omega.{arith}

@@ -1,5 +1,4 @@
 -- The tests are the definition's. Assumes nothing.
-use Prim.Native.Nat.{_≤_, _<_}
 use native.Mathlib.Omega.{arith}
 use borrow.Author.Tests.{lt-ltb, le-ltb}
 use Rattle.roles.proofs.role_sort.Statement.{statement}

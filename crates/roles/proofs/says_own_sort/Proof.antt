@@ -1,8 +1,6 @@
 -- The kinds that have a sort of their own. Assumes nothing.
 use mathlib.Core.Path.{_∙_}
-use mathlib.Core.Bool.{true, false}
 use Rattle.roles.proofs.Sorts.{const-says, ite-says, state-says, false-true}
-use borrow.Author.Needs.{needs}
 use Rattle.roles.proofs.says_own_sort.Statement.{statement}
 use Rattle.roles.proofs.says_own_sort.Tie as tie
 

@@ -7,7 +7,7 @@ use borrow.Author.Needs.{needs}
 use borrow.Fn.Kinds.{In}
 use borrow.Fn.PlainCycle.{Measures, is, falls, and}
 use Rattle.text.specs.Numeral.{numeral}
-use Rattle.text.proofs.Laws.{then, put-as, put-length, numeral-one, numeral-more}
+use Rattle.text.proofs.Laws.{then, put-as, numeral-one, numeral-more}
 use Rattle.text.proofs.put_number.Reads as put-number
 use Rattle.text.proofs.put_number.Kinds as put-number-kinds
 use Rattle.text.proofs.+put_number.Lts-put_number as put-number-lts
