@@ -67,6 +67,7 @@ size_t lanthanumbat_lower_all(uint64_t *list, size_t list_words, uint8_t *names,
 //   host, ours      the areas of the names, as 1 and 2 in a line's word 7
 //   from, count     the first place of the run, and how many lines it has
 //   written         is set to the bytes of the text, 0 where the call is refused
+// It is fastest with an output of 53 bytes for each line of the run, and for each line of the list that has a name its length and 10 more.
 uint64_t lanthanumbat_print(const uint64_t *list, size_t list_words, size_t lines, const uint8_t *host, size_t host_bytes,
                             const uint8_t *ours, size_t ours_bytes, size_t from, size_t count, uint8_t *out, size_t out_bytes,
                             uint64_t *written);
