@@ -21,7 +21,7 @@ use Rattle.lowering.specs.declared.Parts.{Parts}
 use Rattle.lowering.specs.Lowering.{Lent, Answer, answer, loweringGiven}
 use Rattle.lowering.specs.Parts.{stateOf, rolesAfter, joined}
 use Rattle.lowering_words.specs.Places.{nodeOf, flowOf, putFlows, putRegister, putOutcome}
-use Rattle.lowering_words.specs.Words.{role, place, rolesIn, stateIn, stateOut, withRoles, withState, given, givenBy, loweringWords}
+use Rattle.lowering_words.specs.Words.{role, place, rolesIn, stateIn, stateOut, withState, given, givenBy, loweringWords}
 use Rattle.lowering.proofs.Whole.{refused-kept}
 
 -- ---- one role
@@ -103,6 +103,10 @@ put-outcome k rd (P.branch x y) = k
 -- six words, and the roles behind them
 abbrev pub counted : State → List ℕ
 counted s = s .tally .lines ∷ s .tally .nid ∷ s .counts .names ∷ s .counts .edges ∷ s .counts .dispatches ∷ s .counts .bads ∷ []
+
+-- words that hold other roles
+unfoldable pub withRoles : List ℕ → List NodeRef → List ℕ
+withRoles ws roles = take 6 ws ++ map place roles ++ drop 85 ws
 
 pub state-written : (ws : List ℕ) (s : State) → 85 ≤ length ws
     → withRoles (sets ws 0 (counted s)) (s .roles) ≡ withState ws s

@@ -34,10 +34,7 @@ unfoldable pub stateOut : State → List ℕ
 stateOut s =
     s .tally .lines ∷ s .tally .nid ∷ s .counts .names ∷ s .counts .edges ∷ s .counts .dispatches ∷ s .counts .bads ∷ map place (s .roles)
 
--- words that hold other roles, another state; those behind are as they were
-unfoldable pub withRoles : List ℕ → List NodeRef → List ℕ
-withRoles ws roles = take 6 ws ++ map place roles ++ drop 85 ws
-
+-- words that hold another state; those behind are as they were
 unfoldable pub withState : List ℕ → State → List ℕ
 withState ws s = stateOut s ++ drop 85 ws
 
