@@ -10,7 +10,7 @@ use borrow.Author.Tests.{lt-ltb, le-ltb}
 use Rattle.text.specs.Numeral.{glyph, numeral, decimalText}
 use Rattle.text.proofs.Laws.{numeral-length}
 use Rattle.digits.specs.Pairs.{two, four, eight}
-use Rattle.digits.proofs.Length.{ten-to}
+use Rattle.decimal.proofs.Length.{ten-to}
 
 -- more room for digits than a number has changes nothing
 pub wider : (j k x : ℕ) → x < ten-to (suc j) → numeral 10 (suc j) x ≡ numeral 10 (suc (j + k)) x

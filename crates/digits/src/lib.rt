@@ -1,14 +1,12 @@
-// Decimal numbers put into an output, fast: divisors are constants, where there is room for the longest number its bytes are stored with no
-// more tests, and past the output's end the digits are only counted.
+// Decimal numbers put into an output, fast: where there is room for the longest number its bytes are stored with no more tests, and no
+// division is by more than constants.
 ghost use mathlib.Core.Path.{_≡_};
-ghost use Prim.Native.Nat.{_+_, _-_, _%_, _^_, _<_, _≤_, min};
+ghost use mathlib.Core.List.{_∷_};
+ghost use Prim.Native.Nat.{_+_, _-_, _*_, _/_, _%_, _^_, _<_, _≤_, min};
 ghost use lib.ListN.{length};
 ghost use Rattle.text.specs.Numeral.{glyph, numeral, decimalText};
 ghost use Rattle.text.specs.Put.{Put};
 ghost use Rattle.digits.specs.Pairs.{two, four, eight};
-
-// The largest place: past every slice.
-const LAST: usize = 18446744073709551615;
 
 // The most digits of a number.
 const MOST: usize = 20;
@@ -16,27 +14,39 @@ const MOST: usize = 20;
 pub fn put_decimal(out: &mut [u8], at: usize, x: u64) -> usize
     ensures { λ r. ⌜ Put (now (out .entry)) at (decimalText x) (now (out .exit)) r ⌝ }
 {
-    let n = out.len();
-    if n <= at {
-        return put_tight(out, at, x);
+    let end = out.len();
+    if at < end {
+        if MOST <= end - at {
+            return put_in(out, at, x);
+        }
     }
-    if n - at < MOST {
-        return put_tight(out, at, x);
+    decimal::put_decimal(out, at, x)
+}
+
+// A space and a number, with one test of the room for both.
+pub fn put_spaced(out: &mut [u8], at: usize, x: u64) -> usize
+    ensures { λ r. ⌜ Put (now (out .entry)) at (32 ∷ decimalText x) (now (out .exit)) r ⌝ }
+{
+    let end = out.len();
+    if at < end {
+        if MOST < end - at {
+            out[at] = b' ';
+            return put_in(out, at + 1, x);
+        }
     }
+    let p = text::put_byte(out, at, b' ');
+    decimal::put_decimal(out, p, x)
+}
+
+// A number where there is room for the longest.
+fn put_in(out: &mut [u8], at: usize, x: u64) -> usize
+    requires { ⌜ at + 20 ≤ length (now out) ⌝ }
+    ensures { λ r. ⌜ Put (now (out .entry)) at (decimalText x) (now (out .exit)) r ⌝ }
+{
     if x < 100000000 {
         return put_eight(out, at, x as u32);
     }
     put_long(out, at, x)
-}
-
-// The same, where there may be no room.
-fn put_tight(out: &mut [u8], at: usize, x: u64) -> usize
-    ensures { λ r. ⌜ Put (now (out .entry)) at (decimalText x) (now (out .exit)) r ⌝ }
-{
-    if out.len() <= at {
-        return behind(at, decimal_len(x));
-    }
-    put_tens(out, at, x, MOST)
 }
 
 // More than eight digits, where there is room for them.
@@ -55,7 +65,7 @@ fn put_twelve(out: &mut [u8], at: usize, x: u64) -> usize
     ensures { λ r. ⌜ Put (now (out .entry)) at (decimalText x) (now (out .exit)) r × (r ≤ at + 12) ⌝ }
 {
     if x < 100000000 {
-        return put_tight(out, at, x);
+        return decimal::put_decimal(out, at, x);
     }
     let first = x / 100000000;
     let last = x % 100000000;
@@ -122,9 +132,19 @@ fn put_two(out: &mut [u8], at: usize, x: u32) -> usize
     requires { ⌜ (x < 100) × (at + 2 ≤ length (now out)) ⌝ }
     ensures { λ r. ⌜ Put (now (out .entry)) at (two x) (now (out .exit)) r × (r ≡ at + 2) ⌝ }
 {
-    out[at] = digit(x / 10);
-    out[at + 1] = digit(x % 10);
+    let w = pair(x);
+    out[at] = (w % 256) as u8;
+    out[at + 1] = (w / 256) as u8;
     at + 2
+}
+
+// Two digits in one number, the first in the low byte: a multiplication and a shift in place of a division.
+fn pair(x: u32) -> u32
+    requires { ⌜ x < 100 ⌝ }
+    ensures { λ r. ⌜ r ≡ glyph (x / 10) + 256 * glyph (x % 10) ⌝ }
+{
+    let tens = x * 103 / 1024;
+    12336 + 256 * x - 2559 * tens
 }
 
 // A digit in ASCII.
@@ -133,101 +153,4 @@ fn digit(d: u32) -> u8
     ensures { λ r. ⌜ r ≡ glyph d ⌝ }
 {
     48 + d as u8
-}
-
-// The place n behind another, capped at the largest.
-fn behind(at: usize, n: usize) -> usize
-    ensures { λ r. ⌜ r ≡ min (at + n) (2 ^ 64 - 1) ⌝ }
-{
-    if LAST - at < n {
-        return LAST;
-    }
-    at + n
-}
-
-// The last digit of x in ASCII.
-fn last_digit(x: u64) -> u8
-    ensures { λ r. ⌜ r ≡ glyph (x % 10) ⌝ }
-{
-    let d = x % 10;
-    48 + d as u8
-}
-
-// x in decimal, at most k digits.
-fn put_tens(out: &mut [u8], at: usize, x: u64, k: usize) -> usize
-    ensures { λ r. ⌜ Put (now (out .entry)) at (numeral 10 k x) (now (out .exit)) r ⌝ }
-{
-    if k == 0 {
-        return at;
-    }
-    let d = last_digit(x);
-    if x < 10 {
-        return text::put_byte(out, at, d);
-    }
-    let p = put_tens(out, at, x / 10, k - 1);
-    text::put_byte(out, p, d)
-}
-
-// How many digits x has, by twos. The smallest numbers come first: most are identifiers and sorts.
-fn decimal_len(x: u64) -> usize
-    ensures { λ r. ⌜ r ≡ length (decimalText x) ⌝ }
-{
-    if x < 100 {
-        if x < 10 {
-            return 1;
-        }
-        return 2;
-    }
-    if x < 10000 {
-        if x < 1000 {
-            return 3;
-        }
-        return 4;
-    }
-    if x < 1000000 {
-        if x < 100000 {
-            return 5;
-        }
-        return 6;
-    }
-    if x < 100000000 {
-        if x < 10000000 {
-            return 7;
-        }
-        return 8;
-    }
-    if x < 10000000000 {
-        if x < 1000000000 {
-            return 9;
-        }
-        return 10;
-    }
-    if x < 1000000000000 {
-        if x < 100000000000 {
-            return 11;
-        }
-        return 12;
-    }
-    if x < 100000000000000 {
-        if x < 10000000000000 {
-            return 13;
-        }
-        return 14;
-    }
-    if x < 10000000000000000 {
-        if x < 1000000000000000 {
-            return 15;
-        }
-        return 16;
-    }
-    if x < 1000000000000000000 {
-        if x < 100000000000000000 {
-            return 17;
-        }
-        return 18;
-    }
-    if x < 10000000000000000000 {
-        return 19;
-    }
-    20
 }

@@ -1,21 +1,16 @@
 -- A run is its first line and the run behind it. Assumes nothing.
-use Prim.Native.Nat.{ℕ, zero, suc, _+_, _-_, _^_, _≤_, _<_}
-use mathlib.Core.Path.{_≡_, refl, sym, ap, _∙_}
+use Prim.Native.Nat.{ℕ, zero, suc, _+_, _-_, _≤_, _<_}
+use mathlib.Core.Path.{_≡_, sym, ap, _∙_}
 use mathlib.Core.List.{List, [], _++_}
 use native.Mathlib.Decide.{decLe}
 use native.Mathlib.Numerals.{add-one}
 use native.Mathlib.Omega.{arith}
 use lib.ListN.{length, drop-of-length-le, List·getD-eq-default}
 use lib.Seq.{drop-cons, take-nil}
-use Rattle.text.specs.Put.{Put}
-use Rattle.text.proofs.Laws.{put-as}
 use Rattle.btor2.specs.Op.{unknown, mapOp}
 use Rattle.btor2_list.specs.Node.{Node, node}
-use Rattle.line_text.specs.Line.{lineText, nodeAt, nodeText, nodesText, runText}
-
--- a text that is empty is put by doing nothing
-pub nothing : {l t : List ℕ} {at : ℕ} → at < 2 ^ 64 → t ≡ [] → Put l at t l at
-nothing h e = put-as {s = []} (record { list = refl; next = omega arith }) (sym e)
+use Rattle.record_text.specs.Line.{lineText}
+use Rattle.line_text.specs.Line.{nodeAt, nodeText, nodesText, runText}
 
 module _ (host ours : List ℕ) (ns : List Node) where
   -- past the end there is nothing

@@ -1,67 +1,12 @@
--- The text of node lines, clause by clause as unicorn's `write_model` prints them with 64-bit values.
-use Prim.Native.Nat.{ℕ, _+_, _-_, _/_, _%_, _^_, min}
-use Prim.Native.String.{String}
-use mathlib.Core.Bool.{true, false, cond, _||_}
+-- The text of a list's lines, whose operands are places of the list.
+use Prim.Native.Nat.{ℕ, _/_, min}
 use mathlib.Core.List.{List, [], _∷_, _++_}
-use lib.Dec.{eqb}
 use lib.ListN.{length, getD, take, drop}
-use Rattle.btor2.specs.declared.Name.{Name}
-use Rattle.btor2.specs.Sort.{sortNumber, width}
-use Rattle.btor2.specs.Op.{Bin, add, sub, mul, udiv, sdiv, urem, sll, srl, ult, Op, const, read, write, bin, uext, ite, eq, and, or, not, state, stateInit, next, input, bad, unknown, mapOp, binSort}
+use Rattle.btor2.specs.Op.{unknown, mapOp}
 use Rattle.btor2_list.specs.Record.{stride}
 use Rattle.btor2_list.specs.Node.{Node, node}
 use Rattle.btor2_list.specs.View.{view}
-use Rattle.btor2_name.specs.NameBytes.{nameBytes}
-use Rattle.word_text.specs.Words.{ascii}
-use Rattle.node_text.specs.Row.{written}
-
--- ---- a line whose operands are identifiers
-
--- `writeln!(out, "{} WORD {} ..", nid, numbers ..)`, and with one number and a name
-abbrev pub plain : ℕ → String → List ℕ → List ℕ
-plain nid word numbers = written nid (ascii word) numbers false []
-
-abbrev pub named : ℕ → String → ℕ → List ℕ → List ℕ
-named nid word number name = written nid (ascii word) (number ∷ []) true name
-
-abbrev pub binWord : Bin → String
-binWord add = "add"
-binWord sub = "sub"
-binWord mul = "mul"
-binWord udiv = "udiv"
-binWord sdiv = "sdiv"
-binWord urem = "urem"
-binWord sll = "sll"
-binWord srl = "srl"
-binWord ult = "ult"
-
--- `names` gives what is printed for a name. The Rust prints uext's operand `as u32` and an init's identifier as a sum of u64: for
--- identifiers that pass refusal 9 the one changes nothing and the other does not wrap (crates/print/proofs/Identifiers). A line of unknown
--- kind or sort has no text; it is refused with 11, and so is a uext from Memory, at which the Rust panics.
-unfoldable pub lineText : (Name → List ℕ) → ℕ → Op ℕ → List ℕ
-lineText names nid (const s imm) = plain nid "constd" (sortNumber s ∷ imm ∷ [])
-lineText names nid (read m a) = plain nid "read" (2 ∷ m ∷ a ∷ [])
-lineText names nid (write m a v) = plain nid "write" (3 ∷ m ∷ a ∷ v ∷ [])
-lineText names nid (bin o a b) = plain nid (binWord o) (sortNumber (binSort o) ∷ a ∷ b ∷ [])
-lineText names nid (uext from a) = plain nid "uext" (2 ∷ a ∷ (64 - width from) ∷ [])
-lineText names nid (ite s c a b) = plain nid "ite" (sortNumber s ∷ c ∷ a ∷ b ∷ [])
-lineText names nid (eq a b) = plain nid "eq" (1 ∷ a ∷ b ∷ [])
-lineText names nid (and s a b) = plain nid "and" (sortNumber s ∷ a ∷ b ∷ [])
-lineText names nid (or s a b) = plain nid "or" (sortNumber s ∷ a ∷ b ∷ [])
-lineText names nid (not s a) = plain nid "not" (sortNumber s ∷ a ∷ [])
-lineText names nid (state s m) = named nid "state" (sortNumber s) (names m)
-lineText names nid (stateInit s a m) =
-    named nid "state" (sortNumber s) (names m) ++ plain ((nid + 1) % 2 ^ 64) "init" (sortNumber s ∷ nid ∷ a ∷ [])
-lineText names nid (next s a b) = plain nid "next" (sortNumber s ∷ a ∷ b ∷ [])
-lineText names nid (input s m) = named nid "input" (sortNumber s) (names m)
-lineText names nid (bad a m) = named nid "bad" a (names m)
-lineText names nid unknown = []
-
--- ---- names and operands of a list
-
--- "A missing name prints `?`"; another one is printed as the very bytes of its area
-unfoldable pub printedName : List ℕ → List ℕ → Name → List ℕ
-printedName host ours name = cond (eqb (name .area) 1 || eqb (name .area) 2) (nameBytes host ours name) (ascii "?")
+use Rattle.record_text.specs.Line.{lineText, printedName}
 
 -- the lines of a list of n lines, as far as the lent words reach
 abbrev pub nodes : List ℕ → ℕ → List Node

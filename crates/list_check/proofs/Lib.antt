@@ -1,3 +1,5 @@
 pub mod Some
 pub mod Found
 pub mod Formed
+pub mod Scan
+pub mod ByKind

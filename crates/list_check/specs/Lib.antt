@@ -1,3 +1,4 @@
 pub mod Lines
 pub mod Formed
 pub mod Operand
+pub mod Scan

@@ -1,3 +1,4 @@
+pub mod Each
 pub mod Outcomes
 pub mod Identifiers
 pub mod Rooms

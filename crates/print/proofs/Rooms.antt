@@ -25,10 +25,10 @@ use Rattle.btor2_list.specs.Record.{stride, lineAt}
 use Rattle.btor2_list.specs.Node.{Node, withSort, opOf}
 use Rattle.word_text.specs.Words.{ascii}
 use Rattle.node_text.specs.Row.{nameText, numbersText, written}
-use Rattle.line_text.specs.Line.{binWord, lineText, printedName, nodes, nodeAt, nidAt, nodeText, runText}
-use Rattle.line_text.proofs.Each.{Each, none, _▹_, at}
-use Rattle.line_text.proofs.Shape.{of-kind}
-use Rattle.line_text.proofs.KnownKinds.{kind-unknown}
+use Rattle.record_text.specs.Line.{binWord, lineText, printedName}
+use Rattle.line_text.specs.Line.{nodes, nodeAt, nidAt, nodeText, runText}
+use Rattle.print.proofs.Each.{Each, none, _▹_, at}
+use Rattle.record_text.proofs.KnownKinds.{of-kind, kind-unknown}
 use Rattle.line_text.proofs.Listed.{got}
 use Rattle.line_text.proofs.Runs.{run-none, run-on}
 use Rattle.print.specs.Printing.{nidsOut}

@@ -5,9 +5,7 @@ ghost use mathlib.Core.Bool.{true};
 ghost use Prim.Native.Nat.{_+_, _-_, _/_, _^_, _<_, _≤_, min};
 ghost use lib.ListN.{length};
 ghost use Rattle.line_text.specs.Line.{nodes, runText};
-ghost use Rattle.btor2_list.specs.declared.Line.{Line};
-ghost use Rattle.btor2_list.specs.Node.{opOf};
-ghost use Rattle.print.specs.Room.{said, roomOf, runOut, Sound, Surveyed, Roomy};
+ghost use Rattle.print.specs.Room.{said, roomOf, runOut, Surveyed, Roomy};
 ghost use Rattle.print.specs.Printing.{nidsOut, boundsOut, answerOf, outcome, printing};
 
 // The most lines that a list holds, and the largest identifier of a line.
@@ -30,7 +28,7 @@ pub enum Printed {
 }
 
 // Puts the `count` lines from place `from` on at the output's start. `lines` is how many lines the list has; `host` and `ours` are the areas
-// of the names. A refusal changes nothing. Where one pass over the list finds that no refusal applies, as there is room for lines as long as
+// of the names. A refusal changes nothing. Where two passes over the list find that no refusal applies, as there is room for lines as long as
 // they can be, the run is put at once; else the refusals are tested one by one, and the run is measured.
 pub fn print<'a>(
     list: &[u64],
@@ -76,62 +74,50 @@ fn roomy(
     if run_out(list, lines, from, count) {
         return false;
     }
-    let names = survey(list, lines, host, ours);
+    if list_check::unformed(list, lines, host, ours) {
+        return false;
+    }
+    let names = survey(list, lines);
     if end <= names {
         return false;
     }
     LINE_ROOM * count <= end - names
 }
 
-// The room for the names of all lines, or the largest number where a line has too large an identifier or is not well formed.
-fn survey(list: &[u64], lines: usize, host: usize, ours: usize) -> usize
+// The room for the names of all lines, or the largest number where a line has too large an identifier.
+fn survey(list: &[u64], lines: usize) -> usize
     requires { ⌜ lines ≤ length (now list) / 10 ⌝ }
-    ensures { λ r. ⌜ (r < 2 ^ 64 - 1 → Surveyed (now (list .entry)) lines host ours lines r) ⌝ }
+    ensures { λ r. ⌜ (r < 2 ^ 64 - 1 → Surveyed (now (list .entry)) lines lines r) ⌝ }
 {
     let mut names = 0;
     let mut i = 0;
     while i < lines {
-        names = line_room(list, lines, host, ours, i, names);
-        if names == LAST {
+        let at = i * btor2_list::STRIDE;
+        if MOST_NID < list[at] {
             return LAST;
         }
+        names = name_room(list, i, names);
         i += 1;
     }
     names
 }
 
-// `names`, and the room for the name of line i.
-fn line_room(list: &[u64], lines: usize, host: usize, ours: usize, i: usize, names: usize) -> usize
+// `names`, and the room for the name of line i where lines of its kind are named.
+fn name_room(list: &[u64], i: usize, names: usize) -> usize
     requires { ⌜ i < length (now list) / 10 ⌝ }
-    ensures { λ r. ⌜ (r < 2 ^ 64 - 1 → Sound (now (list .entry)) lines host ours i × (names + roomOf (said (now (list .entry)) i) ≤ r)) ⌝ }
+    ensures { λ r. ⌜ (r < 2 ^ 64 - 1 → names + roomOf (said (now (list .entry)) i) ≤ r) ⌝ }
 {
-    let nid = line_text::nid_at(list, lines, NodeRef(i));
-    if MOST_NID < nid.0 {
-        return LAST;
-    }
-    if list_check::line_unformed(list, i, host, ours) {
-        return LAST;
-    }
     let at = i * btor2_list::STRIDE;
-    name_room(
-        list[at + btor2_list::AT_KIND],
-        list[at + btor2_list::AT_NAME_LEN],
-        names,
-    )
-}
-
-// `names`, and the room for a name of so many bytes where lines of the kind are named.
-fn name_room(kind: u64, len: u64, names: usize) -> usize
-    ensures { λ r. ⌜ ((l : Line) → l .kind ≡ kind → l .name .len ≡ len → r < 2 ^ 64 - 1 → names + roomOf (opOf l) ≤ r) ⌝ }
-{
+    let kind = list[at + btor2_list::AT_KIND];
     match kind {
-        btor2_list::STATE => more(names, len),
-        btor2_list::INPUT => more(names, len),
-        btor2_list::BAD => more(names, len),
+        btor2_list::STATE => more(names, list[at + btor2_list::AT_NAME_LEN]),
+        btor2_list::INPUT => more(names, list[at + btor2_list::AT_NAME_LEN]),
+        btor2_list::BAD => more(names, list[at + btor2_list::AT_NAME_LEN]),
         _ => names,
     }
 }
 
+// The sum of both and what a named line takes besides, or the largest number where the sum does not stay below it.
 fn more(names: usize, len: u64) -> usize
     ensures { λ r. ⌜ (r < 2 ^ 64 - 1 → names + (10 + len) ≤ r) ⌝ }
 {

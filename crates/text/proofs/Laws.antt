@@ -45,6 +45,10 @@ then {l} {l₁} {l₂} {at} {p} {r} {s} {t} h u v = record {
 pub put-as : {l l′ : List ℕ} {at r : ℕ} {s t : List ℕ} → Put l at s l′ r → s ≡ t → Put l at t l′ r
 put-as {l} {l′} {at} {r} {s} {t} u e = record { list = u .list ∙ ap (sets l at) e; next = omega (arith, u .next, ap length e) }
 
+-- a text that is empty is put by doing nothing
+pub nothing : {l t : List ℕ} {at : ℕ} → at < 2 ^ 64 → t ≡ [] → Put l at t l at
+nothing h e = put-as {s = []} (record { list = refl; next = omega arith }) (sym e)
+
 pub put-length : {l l′ : List ℕ} {at r : ℕ} {s : List ℕ} → Put l at s l′ r → length l′ ≡ length l
 put-length u = ap length (u .list) ∙ simp length-sets
 

@@ -1,4 +1,4 @@
--- Past the last word there is none, and no word is longer than six letters. Assumes nothing.
+-- Past the last word there is none, and no word with its spaces is longer than eight bytes. Assumes nothing.
 use Prim.Native.Nat.{ℕ, suc, _+_, _^_, _≤_, _<_}
 use mathlib.Core.Path.{_≡_, ap}
 use mathlib.Core.Bool.{Bool}
@@ -11,7 +11,7 @@ use lib.Seq.{take-append-seam}
 use Rattle.bitvec.proofs.Below.{at}
 use Rattle.text.specs.Put.{Put}
 use Rattle.text.proofs.Laws.{put-is}
-use Rattle.word_text.specs.Words.{ascii, words, word}
+use Rattle.word_text.specs.Words.{ascii, words, word, spaced}
 
 pub past : (k : ℕ) → 23 ≤ k → word k ≡ []
 past k h = ap ascii (List·getD-eq-default words "" h)
@@ -21,15 +21,15 @@ pub beyond : {n k : ℕ} → n ≤ k → (k ≡ n → ⊥) → suc n ≤ k
 beyond h e = omega arith
 
 short : ℕ → Bool
-short k = leb (length (word k)) 6
+short k = leb (length (spaced (word k))) 8
 
-pub longest : (k : ℕ) → length (word k) ≤ 6
+pub longest : (k : ℕ) → length (spaced (word k)) ≤ 8
 unfolding short
 longest k = go (decLe 23 k)
   where
-    go : Dec (23 ≤ k) → length (word k) ≤ 6
+    go : Dec (23 ≤ k) → length (spaced (word k)) ≤ 8
     go (yes h) = rw (past k h) (omega arith)
-    go (no h) = leb→le (length (word k)) 6 (at 23 short tt k (omega arith))
+    go (no h) = leb→le (length (spaced (word k))) 8 (at 23 short tt k (omega arith))
 
 -- a piece at the start of an output with room for it is read back
 pub read-back : {l l′ s : List ℕ} {r : ℕ} → Put l 0 s l′ r → length s ≤ length l → length s < 2 ^ 63 → (r ≡ length s) × (take r l′ ≡ s)

@@ -2,7 +2,7 @@
 use Prim.Native.Nat.{ℕ, zero, suc}
 use Prim.Native.Char.{code}
 use Prim.Native.String.{String, len, charAt}
-use mathlib.Core.List.{List, [], _∷_}
+use mathlib.Core.List.{List, [], _∷_, _++_}
 use lib.ListN.{getD}
 
 -- the codes of n ASCII characters of a text from place i on, and of all of it
@@ -44,3 +44,7 @@ words =
 -- no bytes past the last
 abbrev pub word : ℕ → List ℕ
 word k = ascii (getD words k "")
+
+-- a space on each side
+abbrev pub spaced : List ℕ → List ℕ
+spaced w = 32 ∷ w ++ (32 ∷ [])

@@ -1,39 +1,42 @@
-// The words of node lines as text.
-ghost use mathlib.Core.List.{[], _∷_};
+// The words of node lines as text. A word stands between an identifier and a number, so it is put with the spaces around it.
+ghost use mathlib.Core.List.{[], _∷_, _++_};
 ghost use Prim.Native.Nat.{_+_, _<_, _≤_};
 ghost use lib.ListN.{length};
 ghost use Rattle.text.specs.Put.{Put};
-ghost use Rattle.word_text.specs.Words.{word};
+ghost use Rattle.word_text.specs.Words.{word, spaced};
 
-// The bytes of the longest word.
-const LONGEST: usize = 6;
+// The bytes of the longest word and its spaces.
+const LONGEST: usize = 8;
 
-// The word of a number, nothing past the last.
+// The word of a number and its spaces, no word past the last.
 pub fn put_word(out: &mut [u8], at: usize, k: usize) -> usize
-    ensures { λ r. ⌜ Put (now (out .entry)) at (word k) (now (out .exit)) r ⌝ }
+    ensures { λ r. ⌜ Put (now (out .entry)) at (spaced (word k)) (now (out .exit)) r ⌝ }
 {
-    let end = out.len();
-    if at < end {
-        if LONGEST <= end - at {
-            return put_word_in(out, at, k);
-        }
-    }
-    put_word_tight(out, at, k)
-}
-
-// The same where there may be no room.
-fn put_word_tight(out: &mut [u8], at: usize, k: usize) -> usize
-    ensures { λ r. ⌜ Put (now (out .entry)) at (word k) (now (out .exit)) r ⌝ }
-{
-    let mut letters = [0u8; 6];
+    let mut letters = [0u8; 8];
     let n = put_word_in(&mut letters, 0, k);
     text::put_bytes(out, at, &letters[..n])
 }
 
-// The same where there is room for the longest word: bytes that stand in the code, stored with no tests.
+// The same, and one byte more: most numbers behind a word have one digit.
+pub fn put_word_and(out: &mut [u8], at: usize, k: usize, last: u8) -> usize
+    ensures { λ r. ⌜ Put (now (out .entry)) at (spaced (word k) ++ (last ∷ [])) (now (out .exit)) r ⌝ }
+{
+    let end = out.len();
+    if at < end {
+        if LONGEST < end - at {
+            let p = put_word_in(out, at, k);
+            out[p] = last;
+            return p + 1;
+        }
+    }
+    let p = put_word(out, at, k);
+    text::put_byte(out, p, last)
+}
+
+// The word and its spaces where there is room for the longest: bytes that stand in the code, stored with no tests.
 fn put_word_in(out: &mut [u8], at: usize, k: usize) -> usize
-    requires { ⌜ at + 6 ≤ length (now out) ⌝ }
-    ensures { λ r. ⌜ Put (now (out .entry)) at (word k) (now (out .exit)) r ⌝ }
+    requires { ⌜ at + 8 ≤ length (now out) ⌝ }
+    ensures { λ r. ⌜ Put (now (out .entry)) at (spaced (word k)) (now (out .exit)) r × (r ≤ at + 8) ⌝ }
 {
     match k {
         0 => four(out, at, b'i', b'n', b'i', b't'),
@@ -59,61 +62,80 @@ fn put_word_in(out: &mut [u8], at: usize, k: usize) -> usize
         20 => four(out, at, b'n', b'e', b'x', b't'),
         21 => five(out, at, b'i', b'n', b'p', b'u', b't'),
         22 => three(out, at, b'b', b'a', b'd'),
-        _ => at,
+        _ => none(out, at),
     }
 }
 
-fn two(out: &mut [u8], at: usize, a: u8, b: u8) -> usize
-    requires { ⌜ at + 2 ≤ length (now out) ⌝ }
-    ensures { λ r. ⌜ Put (now (out .entry)) at (a ∷ b ∷ []) (now (out .exit)) r ⌝ }
+fn none(out: &mut [u8], at: usize) -> usize
+    requires { ⌜ at + 8 ≤ length (now out) ⌝ }
+    ensures { λ r. ⌜ Put (now (out .entry)) at (32 ∷ 32 ∷ []) (now (out .exit)) r × (r ≤ at + 8) ⌝ }
 {
-    out[at] = a;
-    out[at + 1] = b;
+    out[at] = b' ';
+    out[at + 1] = b' ';
     at + 2
 }
 
-fn three(out: &mut [u8], at: usize, a: u8, b: u8, c: u8) -> usize
-    requires { ⌜ at + 3 ≤ length (now out) ⌝ }
-    ensures { λ r. ⌜ Put (now (out .entry)) at (a ∷ b ∷ c ∷ []) (now (out .exit)) r ⌝ }
+fn two(out: &mut [u8], at: usize, a: u8, b: u8) -> usize
+    requires { ⌜ at + 8 ≤ length (now out) ⌝ }
+    ensures { λ r. ⌜ Put (now (out .entry)) at (32 ∷ a ∷ b ∷ 32 ∷ []) (now (out .exit)) r × (r ≤ at + 8) ⌝ }
 {
-    out[at] = a;
-    out[at + 1] = b;
-    out[at + 2] = c;
-    at + 3
-}
-
-fn four(out: &mut [u8], at: usize, a: u8, b: u8, c: u8, d: u8) -> usize
-    requires { ⌜ at + 4 ≤ length (now out) ⌝ }
-    ensures { λ r. ⌜ Put (now (out .entry)) at (a ∷ b ∷ c ∷ d ∷ []) (now (out .exit)) r ⌝ }
-{
-    out[at] = a;
-    out[at + 1] = b;
-    out[at + 2] = c;
-    out[at + 3] = d;
+    out[at] = b' ';
+    out[at + 1] = a;
+    out[at + 2] = b;
+    out[at + 3] = b' ';
     at + 4
 }
 
-fn five(out: &mut [u8], at: usize, a: u8, b: u8, c: u8, d: u8, e: u8) -> usize
-    requires { ⌜ at + 5 ≤ length (now out) ⌝ }
-    ensures { λ r. ⌜ Put (now (out .entry)) at (a ∷ b ∷ c ∷ d ∷ e ∷ []) (now (out .exit)) r ⌝ }
+fn three(out: &mut [u8], at: usize, a: u8, b: u8, c: u8) -> usize
+    requires { ⌜ at + 8 ≤ length (now out) ⌝ }
+    ensures { λ r. ⌜ Put (now (out .entry)) at (32 ∷ a ∷ b ∷ c ∷ 32 ∷ []) (now (out .exit)) r × (r ≤ at + 8) ⌝ }
 {
-    out[at] = a;
-    out[at + 1] = b;
-    out[at + 2] = c;
-    out[at + 3] = d;
-    out[at + 4] = e;
+    out[at] = b' ';
+    out[at + 1] = a;
+    out[at + 2] = b;
+    out[at + 3] = c;
+    out[at + 4] = b' ';
     at + 5
 }
 
-fn six(out: &mut [u8], at: usize, a: u8, b: u8, c: u8, d: u8, e: u8, f: u8) -> usize
-    requires { ⌜ at + 6 ≤ length (now out) ⌝ }
-    ensures { λ r. ⌜ Put (now (out .entry)) at (a ∷ b ∷ c ∷ d ∷ e ∷ f ∷ []) (now (out .exit)) r ⌝ }
+fn four(out: &mut [u8], at: usize, a: u8, b: u8, c: u8, d: u8) -> usize
+    requires { ⌜ at + 8 ≤ length (now out) ⌝ }
+    ensures { λ r. ⌜ Put (now (out .entry)) at (32 ∷ a ∷ b ∷ c ∷ d ∷ 32 ∷ []) (now (out .exit)) r × (r ≤ at + 8) ⌝ }
 {
-    out[at] = a;
-    out[at + 1] = b;
-    out[at + 2] = c;
-    out[at + 3] = d;
-    out[at + 4] = e;
-    out[at + 5] = f;
+    out[at] = b' ';
+    out[at + 1] = a;
+    out[at + 2] = b;
+    out[at + 3] = c;
+    out[at + 4] = d;
+    out[at + 5] = b' ';
     at + 6
+}
+
+fn five(out: &mut [u8], at: usize, a: u8, b: u8, c: u8, d: u8, e: u8) -> usize
+    requires { ⌜ at + 8 ≤ length (now out) ⌝ }
+    ensures { λ r. ⌜ Put (now (out .entry)) at (32 ∷ a ∷ b ∷ c ∷ d ∷ e ∷ 32 ∷ []) (now (out .exit)) r × (r ≤ at + 8) ⌝ }
+{
+    out[at] = b' ';
+    out[at + 1] = a;
+    out[at + 2] = b;
+    out[at + 3] = c;
+    out[at + 4] = d;
+    out[at + 5] = e;
+    out[at + 6] = b' ';
+    at + 7
+}
+
+fn six(out: &mut [u8], at: usize, a: u8, b: u8, c: u8, d: u8, e: u8, f: u8) -> usize
+    requires { ⌜ at + 8 ≤ length (now out) ⌝ }
+    ensures { λ r. ⌜ Put (now (out .entry)) at (32 ∷ a ∷ b ∷ c ∷ d ∷ e ∷ f ∷ 32 ∷ []) (now (out .exit)) r × (r ≤ at + 8) ⌝ }
+{
+    out[at] = b' ';
+    out[at + 1] = a;
+    out[at + 2] = b;
+    out[at + 3] = c;
+    out[at + 4] = d;
+    out[at + 5] = e;
+    out[at + 6] = f;
+    out[at + 7] = b' ';
+    at + 8
 }

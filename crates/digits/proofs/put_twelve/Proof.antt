@@ -10,7 +10,7 @@ returns : tie.Need-returns
 returns c =
     let p = c .before .before in
     let e = p .before .before in
-    let x = e .before .before .args .x in (p .put-tight .ensures, omega (arith, p .put-tight .ensures .next, at-most-eight x (e .if1 .taken)))
+    let x = e .before .before .args .x in (p .put-decimal .ensures, omega (arith, p .put-decimal .ensures .next, at-most-eight x (e .if1 .taken)))
 
 returns-2 : tie.Need-returns-2
 returns-2 c =

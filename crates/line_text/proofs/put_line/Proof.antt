@@ -2,10 +2,10 @@
 use mathlib.Core.Path.{sym, ap, _∙_}
 use denote.Ref.{now}
 use native.Mathlib.Omega.{arith}
-use Rattle.text.proofs.Laws.{put-as}
+use Rattle.text.proofs.Laws.{nothing, put-as}
 use Rattle.line_text.specs.Line.{nodes, nodeText}
 use Rattle.line_text.proofs.Listed.{length-nodes, got, not-got}
-use Rattle.line_text.proofs.Runs.{nothing, line-past}
+use Rattle.line_text.proofs.Runs.{line-past}
 use borrow.Author.Needs.{needs}
 use Rattle.line_text.proofs.put_line.Statement.{statement}
 use Rattle.line_text.proofs.put_line.Tie as tie

@@ -1,0 +1,94 @@
+-- Of the lines of a known kind and sort, the kind tells which carry a value. Assumes nothing.
+use Prim.Native.Nat.{ℕ, _*_, _/_, _<_}
+use mathlib.Core.Path.{_≡_, refl, _∙_}
+use mathlib.Core.Bool.{Bool, true, false, cond, _||_}
+use mathlib.Core.Bool as B
+use mathlib.Core.List.{List}
+use native.Mathlib.Decide.{ℕ-discrete}
+use native.Mathlib.Omega.{arith}
+use lib.Dec.{eqb, leb}
+use lib.ListN.{length}
+use borrow.Author.Tests.{lt-ltb, le-ltb, le-leb, lt-leb, ne-eqb}
+use Rattle.bitvec.proofs.Base.{by-le}
+use Rattle.btor2.specs.declared.NodeType.{NodeType}
+use Rattle.btor2.specs.declared.MaybeSort.{MaybeSort}
+use Rattle.btor2.specs.declared.MaybeSort.the-variants.{Sort, NoSort}
+use Rattle.btor2.specs.Sort.{sortNumbered}
+use Rattle.btor2.specs.Op.{Op, next, carried}
+use Rattle.btor2_list.specs.declared.Line.{Line}
+use Rattle.btor2_list.specs.Record.{stride, word, lineAt}
+use Rattle.btor2_list.specs.Node.{withSort, opOf}
+use Rattle.list_check.specs.Formed.{isUnknown, hasValue}
+use Rattle.list_check.specs.Operand.{noValueAt}
+use Rattle.list_check.specs.Scan.{Reached}
+use Rattle.list_check.proofs.Formed.{seen-value}
+
+-- it carries a value unless it is unknown
+abbrev Valued : Op ℕ → Type 0
+Valued o = B.not (hasValue (carried o)) ≡ isUnknown o
+
+either : (b : Bool) (o p : Op ℕ) → Valued o → Valued p → Valued (cond b o p)
+either true o p h h′ = h
+either false o p h h′ = h′
+
+own : (m : MaybeSort) (g : NodeType → Op ℕ) → ((s : NodeType) → Valued (g s)) → Valued (withSort m g)
+unfolding carried
+own (Sort s) g h = h s
+own NoSort g h = refl
+
+-- a Next carries none
+no-next : (m : MaybeSort) (a b : ℕ) → B.not (hasValue (carried (withSort m (λ s. next s a b)))) ≡ true
+unfolding carried
+no-next (Sort s) a b = refl
+no-next NoSort a b = refl
+
+module _ (l : Line) where
+  -- neither a Next nor a Bad, kind by kind
+  valued : (l .kind ≡ 20 → ⊥) → (l .kind ≡ 22 → ⊥) → Valued (opOf l)
+  unfolding opOf carried
+  valued n b =
+      let m = sortNumbered (l .sort) in
+      let k = l .kind in
+      rw (ne-eqb k 20 n, ne-eqb k 22 b)
+      (either (eqb k 1) _ _ (own m _ (λ s. refl))
+      (either (eqb k 2) _ _ refl
+      (either (eqb k 3) _ _ refl
+      (either (eqb k 4) _ _ refl
+      (either (eqb k 5) _ _ refl
+      (either (eqb k 6) _ _ refl
+      (either (eqb k 7) _ _ refl
+      (either (eqb k 8) _ _ refl
+      (either (eqb k 9) _ _ refl
+      (either (eqb k 10) _ _ refl
+      (either (eqb k 11) _ _ refl
+      (either (eqb k 12) _ _ refl
+      (either (eqb k 13) _ _ (own m _ (λ s. refl))
+      (either (eqb k 14) _ _ (own m _ (λ s. refl))
+      (either (eqb k 15) _ _ refl
+      (either (eqb k 16) _ _ (own m _ (λ s. refl))
+      (either (eqb k 17) _ _ (own m _ (λ s. refl))
+      (either (eqb k 18) _ _ (own m _ (λ s. refl))
+      (either (eqb k 19) _ _ (own m _ (λ s. either (eqb (l .imm) 0) _ _ refl refl))
+      (either (eqb k 21) _ _ (own m _ (λ s. refl)) refl))))))))))))))))))))
+
+  by-kind : isUnknown (opOf l) ≡ false → B.not (hasValue (carried (opOf l))) ≡ (eqb (l .kind) 20 || eqb (l .kind) 22)
+  unfolding opOf carried
+  by-kind known = go (ℕ-discrete (l .kind) 20) (ℕ-discrete (l .kind) 22)
+    where
+      go : Dec (l .kind ≡ 20) → Dec (l .kind ≡ 22) → B.not (hasValue (carried (opOf l))) ≡ (eqb (l .kind) 20 || eqb (l .kind) 22)
+      go (yes e) d = rw e (no-next (sortNumbered (l .sort)) (l .op1 .0) (l .op2 .0))
+      go (no n) (yes e) = rw e
+      go (no n) (no b) =
+          let neither : false ≡ (eqb (l .kind) 20 || eqb (l .kind) 22) = rw (ne-eqb (l .kind) 20 n, ne-eqb (l .kind) 22 b) in valued n b ∙ known ∙ neither
+
+-- the test of an operand in a scan: a place from line i on, or that of a Next or a Bad, is none of an earlier value line
+pub short : (ws : List ℕ) (i : ℕ) → Reached ws i → (q : ℕ)
+    → noValueAt ws i q ≡ (leb i q || (eqb (word ws (q * stride) 1) 20 || eqb (word ws (q * stride) 1) 22))
+unfolding lineAt
+short ws i r q =
+    by-le i q
+    (λ h. rw (le-ltb q i h, le-leb i q h))
+    (λ h.
+    let there : q < length ws / stride = omega (arith, r .held) in
+    let l = lineAt ws (q * stride) in
+    rw (lt-ltb q i h, lt-leb i q h, lt-ltb _ _ there) (seen-value (l .nid .0) (carried (opOf l)) ∙ by-kind l (r .known q h)))

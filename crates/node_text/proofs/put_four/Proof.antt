@@ -1,0 +1,24 @@
+-- The pieces of the row. Assumes nothing.
+use Rattle.text.proofs.Laws.{then, put-as}
+use Rattle.word_text.specs.Words.{word}
+use Rattle.node_text.proofs.Rows.{four-row}
+use borrow.Author.Needs.{needs}
+use Rattle.node_text.proofs.put_four.Statement.{statement}
+use Rattle.node_text.proofs.put_four.Tie as tie
+
+returns : tie.Need-returns
+returns c =
+    let s4 = c .before .before in
+    let s3 = s4 .before .before .before .before in
+    let s2 = s3 .before .before .before .before in
+    let s1 = s2 .before .before .before .before in
+    let s0 = s1 .before .before .before .before in
+    let s = s0 .before .before .before in
+    let h = s .good .0 .0 in
+    let r = s .args in
+    put-as
+    (then h (then h (then h (then h (s0 .put-head .ensures) (s1 .put-spaced .ensures)) (s2 .put-spaced2 .ensures)) (s3 .put-spaced3 .ensures)) (s4 .put-byte .ensures))
+    (four-row (r .nid) (r .a) (word (r .k)) (r .b) (r .c) (r .d))
+
+pub put-four-spec : {M : Type 1} → statement M
+put-four-spec = tie.close (tie.spec (λ c κs. search needs) (λ c κs. search needs) (λ c κs. search needs) (λ c κs. search needs) (λ c κs. search needs) (λ c. search needs) returns)

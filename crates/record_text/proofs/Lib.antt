@@ -1,0 +1,2 @@
+pub mod KnownKinds
+mod Examples
