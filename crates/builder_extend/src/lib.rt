@@ -2,8 +2,8 @@
 use btor2::NodeRef;
 use builder::Made;
 use builder::Tally;
-use builder_lines::Bin;
-use builder_lines::new_bin;
+use builder_bin::Bin;
+use builder_bin::new_bin;
 use builder_lines::new_const;
 use builder_ops::new_sra;
 ghost use Rattle.builder_ops.specs.Composed.{newShiftRight, newSextBy, newSext32};

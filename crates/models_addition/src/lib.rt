@@ -2,9 +2,9 @@
 use btor2::NodeRef;
 use builder::Made;
 use builder::Tally;
+use builder_bin::Bin;
+use builder_bin::new_bin;
 use builder_extend::new_sext32;
-use builder_lines::Bin;
-use builder_lines::new_bin;
 use builder_lines::new_const;
 use builder_overflow::check_addition_overflow;
 use models::Flows;

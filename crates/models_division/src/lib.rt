@@ -1,9 +1,9 @@
 // Quotients and remainders.
 use btor2::NodeType;
 use builder::Tally;
+use builder_bin::Bin;
+use builder_bin::new_bin;
 use builder_extend::new_sext_by;
-use builder_lines::Bin;
-use builder_lines::new_bin;
 use builder_lines::new_const;
 use builder_lines::new_ite;
 use models::Flows;
@@ -11,7 +11,7 @@ use models::Modeled;
 use models::Operands;
 use models::Outcome;
 ghost use Rattle.builder.specs.Gives.{Gives};
-ghost use Rattle.builder_lines.specs.Operator.{binOf};
+ghost use Rattle.builder_bin.specs.Operator.{binOf};
 ghost use Rattle.models.specs.Code.{operandsOf, flowsOf, modeledOf};
 ghost use Rattle.models.specs.Kinds.{divided, modelRemu, modelDivw};
 

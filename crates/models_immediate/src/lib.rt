@@ -1,8 +1,8 @@
 // Kinds with a constant: Lui, Auipc, the link of Jal and Jalr, and the register-immediate kinds but Addi and Addiw.
 use btor2::NodeType;
 use builder::Tally;
-use builder_lines::Bin;
-use builder_lines::new_bin;
+use builder_bin::Bin;
+use builder_bin::new_bin;
 use builder_lines::new_const;
 use builder_lines::new_ext;
 use builder_ops::Operator;

@@ -2,12 +2,12 @@
 use btor2::NodeRef;
 use btor2::NodeType;
 use builder::Tally;
+use builder_bin::Bin;
+use builder_bin::new_bin;
 use builder_extend::new_shift_right;
-use builder_lines::Bin;
-use builder_lines::new_bin;
 use builder_lines::new_const;
 use builder_lines::new_ite;
-use builder_lines::new_read;
+use builder_memory::new_read;
 use models::Flows;
 use models::Modeled;
 use models::Operands;

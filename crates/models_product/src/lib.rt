@@ -1,8 +1,8 @@
 // Products.
 use builder::Tally;
+use builder_bin::Bin;
+use builder_bin::new_bin;
 use builder_extend::new_sext_by;
-use builder_lines::Bin;
-use builder_lines::new_bin;
 use builder_lines::new_const;
 use builder_overflow::check_multiplication_overflow;
 use models::Flows;

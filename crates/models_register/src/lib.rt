@@ -1,13 +1,13 @@
 // Kinds on two registers: logic, shifts, compare, branches; and Ecall.
 use btor2::NodeType;
 use builder::Tally;
-use builder_lines::Bin;
-use builder_lines::new_and_word;
-use builder_lines::new_bin;
+use builder_bin::Bin;
+use builder_bin::new_bin;
 use builder_lines::new_const;
 use builder_lines::new_ext;
 use builder_lines::new_ite;
-use builder_lines::new_not_bit;
+use builder_logic::new_and_word;
+use builder_logic::new_not_bit;
 use builder_ops::Operator;
 use builder_ops::apply;
 use models::Flows;

@@ -1,17 +1,17 @@
 // Sums and differences, and their kinds on 32 bits; Sllw.
 use builder::Tally;
+use builder_bin::Bin;
+use builder_bin::new_bin;
 use builder_extend::new_sext32;
-use builder_lines::Bin;
-use builder_lines::new_and_word;
-use builder_lines::new_bin;
 use builder_lines::new_const;
+use builder_logic::new_and_word;
 use builder_ops::new_sra;
 use builder_overflow::check_addition_overflow;
 use models::Flows;
 use models::Modeled;
 use models::Operands;
 use models::Outcome;
-ghost use Rattle.builder_lines.specs.Operator.{binOf};
+ghost use Rattle.builder_bin.specs.Operator.{binOf};
 ghost use Rattle.models.specs.Kinds.{modelSllw, summed, summedWord};
 ghost use Rattle.builder.specs.Gives.{Gives};
 ghost use Rattle.models.specs.Code.{operandsOf, flowsOf, modeledOf};

@@ -4,7 +4,7 @@ use btor2::Name;
 use btor2::NodeRef;
 use btor2::NodeType;
 use builder::Tally;
-use builder_lines::Bin;
+use builder_bin::Bin;
 use builder_lines::new_bad;
 use builder_lines::new_ite;
 use builder_ops::Operator;

@@ -1,7 +1,7 @@
 -- The operator goes in as its number and its sort's. Assumes nothing.
 use borrow.Author.Needs.{needs}
-use Rattle.builder_lines.proofs.new_bin.Statement.{statement}
-use Rattle.builder_lines.proofs.new_bin.Tie as tie
+use Rattle.builder_bin.proofs.new_bin.Statement.{statement}
+use Rattle.builder_bin.proofs.new_bin.Tie as tie
 
 returns : tie.Need-returns
 returns c =

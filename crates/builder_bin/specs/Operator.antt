@@ -1,7 +1,7 @@
 -- The code's enum of one-line operators as the definition's; `Node` calls udiv, sdiv and urem Divu, Div and Rem.
 use Rattle.btor2.specs.Op as Op
-use Rattle.builder_lines.specs.declared.Bin.{Bin}
-use Rattle.builder_lines.specs.declared.Bin.the-variants.{Add, Sub, Mul, Divu, Div, Rem, Sll, Srl, Ult}
+use Rattle.builder_bin.specs.declared.Bin.{Bin}
+use Rattle.builder_bin.specs.declared.Bin.the-variants.{Add, Sub, Mul, Divu, Div, Rem, Sll, Srl, Ult}
 
 abbrev pub binOf : Bin → Op.Bin
 binOf Add = Op.add

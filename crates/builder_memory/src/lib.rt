@@ -1,0 +1,29 @@
+// Reads and writes of a memory: one line each.
+use btor2::NodeRef;
+use btor2_list::READ;
+use btor2_list::WRITE;
+use builder::Made;
+use builder::Tally;
+use builder_lines::MEMORY;
+use builder_lines::WORD;
+use builder_lines::plain;
+ghost use Rattle.program.specs.OneLine.{newRead, newWrite};
+ghost use Rattle.builder.specs.Gives.{Gives};
+
+pub fn new_read(list: &mut [u64], t: Tally, memory: NodeRef, address: NodeRef) -> Made
+    ensures { λ r. ⌜ Gives (now (list .entry)) t (newRead (memory .0) (address .0)) (now (list .exit)) (r .tally) (r .node .0) ⌝ }
+{
+    plain(list, t, READ, WORD, memory, address, NodeRef(0))
+}
+
+pub fn new_write(
+    list: &mut [u64],
+    t: Tally,
+    memory: NodeRef,
+    address: NodeRef,
+    value: NodeRef,
+) -> Made
+    ensures { λ r. ⌜ Gives (now (list .entry)) t (newWrite (memory .0) (address .0) (value .0)) (now (list .exit)) (r .tally) (r .node .0) ⌝ }
+{
+    plain(list, t, WRITE, MEMORY, memory, address, value)
+}
