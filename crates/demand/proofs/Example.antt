@@ -20,7 +20,8 @@ use Rattle.list_check.specs.Lines.{some}
 use Rattle.list_check.specs.Formed.{opUnformed, unformed}
 use Rattle.nid_check.specs.Identifiers.{taken, rising, nidsOut}
 use Rattle.riscv.specs.Kind as K
-use Rattle.roles.specs.Roles.{ref, rolesFit, operandsFor, flowsIn, withFlows}
+use Rattle.roles.specs.Roles.{ref, operandsFor, flowsIn, withFlows}
+use Rattle.roles_check.specs.RolesFit.{rolesFit}
 use Rattle.bitvec.specs.Smtlib as Smt
 use Rattle.bitvec.specs.Smtlib.{bit, negative, bvadd, bvsub, bvneg, bvand, bvlshr, bvult, bvcomp}
 use Rattle.program.specs.Prog.{_>>=_}

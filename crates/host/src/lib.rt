@@ -45,7 +45,7 @@ pub extern "C" fn lanthanumbat_lower(
     let before = state_in(state);
     let t = before.tally;
     let places = before.roles;
-    let out = roles::roles_out(list, t.lines, places);
+    let out = roles_check::roles_out(list, t.lines, places);
     let i = Instruction {
         kind,
         rd,
@@ -89,7 +89,7 @@ pub extern "C" fn lanthanumbat_lower_all(
     let before = state_in(state);
     let t = before.tally;
     let places = before.roles;
-    let fits = !roles::roles_out(list, t.lines, places);
+    let fits = !roles_check::roles_out(list, t.lines, places);
     let stopped = lowering_all::lower_all(list, names, edges, dispatches, bads, state, calls, fits);
     *refusal = stopped.refusal;
     stopped.done

@@ -18,7 +18,7 @@ use Rattle.list_check.specs.Lines.{ops, some}
 use Rattle.list_check.specs.Formed.{opUnformed, unformed}
 use Rattle.nid_check.specs.Identifiers.{taken, rising, nidsOut}
 use Rattle.riscv.specs.Refusal.{first}
-use Rattle.roles.specs.Roles.{rolesFit}
+use Rattle.roles_check.specs.RolesFit.{rolesFit}
 use Rattle.lowering_refusals.specs.declared.Room.{Room}
 use Rattle.lowering_refusals.specs.Refusal.{roomOf}
 use Rattle.lowering_laws.specs.Lines.{numbered}

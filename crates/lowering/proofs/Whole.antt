@@ -12,9 +12,10 @@ use Rattle.riscv.specs.declared.Instruction.{Instruction}
 use Rattle.lowering_refusals.specs.declared.Counts.{Counts}
 use Rattle.lowering_refusals.specs.declared.State.{State}
 use Rattle.lowering_refusals.specs.Refusal.{refusalGiven}
-use Rattle.lowering.specs.declared.Reads.{Reads}
+use Rattle.lowering_lines.specs.declared.Reads.{Reads}
 use Rattle.lowering.specs.Lowering.{Lent, Answer, roomIn, programOf, settled, refused, loweringGiven}
-use Rattle.lowering.specs.Parts.{readsIn, programFrom, stateOf}
+use Rattle.lowering_lines.specs.Lines.{programFrom}
+use Rattle.lowering.specs.Parts.{readsIn, stateOf}
 
 pub program-read : (roles : List NodeRef) (t : Tally) (c : Counts) (flag : NodeRef) (e : Reads) (i : Instruction) (pc : ℕ) → e ≡ readsIn roles flag i
     → programFrom e (c .names) i pc ≡ programOf (stateOf t c roles) i pc flag

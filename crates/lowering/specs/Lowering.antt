@@ -6,9 +6,7 @@ use mathlib.Core.List.{List, [], _∷_}
 use lib.Dec.{eqb}
 use lib.ListN.{length}
 use lib.Seq.{sets}
-use Rattle.btor2.specs.declared.Name.{Name}
 use Rattle.btor2.specs.declared.NodeRef.{NodeRef}
-use Rattle.btor2_list.specs.Node.{noName}
 use Rattle.program.specs.Prog.{Prog, Run, exec}
 use Rattle.builder.specs.Append.{Store, at, append}
 use Rattle.instruction_class.specs.declared.Class.{Class}
@@ -21,11 +19,13 @@ use Rattle.models.specs.Model.{translate, constantOf}
 use Rattle.models.specs.Code.{operandsOf, flowsOf}
 use Rattle.riscv.specs.declared.Instruction.{Instruction}
 use Rattle.riscv.specs.Kind.{kindAt}
-use Rattle.roles.specs.Roles.{role, registerFlow, operandsFor, flowsIn, withFlows, withOutcome, rolesFit}
+use Rattle.roles.specs.Roles.{role, registerFlow, operandsFor, flowsIn, withFlows, withOutcome}
+use Rattle.roles_check.specs.RolesFit.{rolesFit}
 use Rattle.text.specs.BadName.{badName}
 use Rattle.lowering_refusals.specs.declared.Counts.{Counts}
 use Rattle.lowering_refusals.specs.declared.Room.{Room}
 use Rattle.lowering_refusals.specs.declared.State.{State}
+use Rattle.lowering_lines.specs.Lines.{nameFor}
 use Rattle.lowering.specs.declared.Lowered.{Lowered}
 use Rattle.lowering_refusals.specs.Refusal.{roomOf, needsOf, refusalGiven}
 
@@ -47,16 +47,6 @@ pub record Answer : Type 0 where
 
 abbrev pub answer : Lowered → Lent → Answer
 answer r l = record { lowered = r; lent = l }
-
--- Jalr's bad line has a name in our area, behind what is in use there; no other line has one
-abbrev pub nameFor : Class → Bool → ℕ → ℕ → Name
-nameFor Plain s at pc = noName
-nameFor Access s at pc = noName
-nameFor Addition s at pc = noName
-nameFor Branch s at pc = noName
-nameFor Jump s at pc = noName
-nameFor Indirect s at pc = cond s (record { area = 2; at = at; len = length (badName pc) }) noName
-nameFor Call s at pc = noName
 
 -- the lines of an instruction: "All operands come from register nodes; the flow is replaced by ite(flag, result, old flow)"
 unfoldable pub programOf : State → Instruction → ℕ → NodeRef → Prog ℕ (P.Modeled ℕ)

@@ -10,7 +10,7 @@ use lib.Dec.{eqb}
 use lib.ListN.{length, take, drop, length-append, length-map, length-take, length-drop}
 use lib.Seq.{drop-at}
 use Rattle.btor2.specs.declared.NodeRef.{NodeRef}
-use Rattle.roles.specs.Roles.{rolesFit}
+use Rattle.roles_check.specs.RolesFit.{rolesFit}
 use Rattle.lowering_refusals.specs.declared.State.{State}
 use Rattle.lowering_refusals.specs.Refusal.{refusalOf}
 use Rattle.lowering.specs.Lowering.{Lent, Answer, roomIn, lowering}

@@ -7,7 +7,7 @@ use lib.Dec.{eqb}
 use lib.ListN.{length, getD, drop}
 use Rattle.btor2.specs.declared.NodeRef.{NodeRef}
 use Rattle.riscv.specs.declared.Instruction.{Instruction}
-use Rattle.roles.specs.Roles.{rolesFit}
+use Rattle.roles_check.specs.RolesFit.{rolesFit}
 use Rattle.lowering_refusals.specs.declared.State.{State}
 use Rattle.lowering.specs.Lowering.{Lent, lowering}
 use Rattle.lowering_words.specs.Words.{stateIn, withState, loweringWords}

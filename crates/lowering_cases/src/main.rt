@@ -116,7 +116,7 @@ fn run_lower(
         imm: imm.value,
     };
     let place = NodeRef(flag.value as usize);
-    let lowered = lowering::lower(
+    let lowered = lowering_state::lower(
         list,
         names,
         edges,

@@ -12,7 +12,7 @@ use Rattle.instruction_class.specs.Class.{class, plainCount, countOf, needsFlag
 use Rattle.riscv.specs.declared.Instruction.{Instruction}
 use Rattle.riscv.specs.Kind.{Kind, kindAt}
 use Rattle.riscv.specs.Refusal.{refusal, first}
-use Rattle.roles.specs.Roles.{valueNumber, rolesFit}
+use Rattle.roles_check.specs.RolesFit.{valueNumber, rolesFit}
 use Rattle.text.specs.BadName.{badName}
 use Rattle.lowering_refusals.specs.declared.Counts.{Counts}
 use Rattle.lowering_refusals.specs.declared.Room.{Room}

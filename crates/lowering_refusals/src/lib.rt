@@ -159,7 +159,7 @@ fn flag_out(list: &[u64], lines: usize, class: Class, d: bool, s: bool, flag: No
     ensures { λ r. ⌜ r ≡ flagOut (now (list .entry)) lines class d s (flag .0) ⌝ }
 {
     if instruction_class::needs_flag(class, d, s) {
-        return roles::value_sort(list, lines, flag) != 1;
+        return roles_check::value_sort(list, lines, flag) != 1;
     }
     false
 }

@@ -3,8 +3,8 @@
 use btor2::NodeRef;
 use builder::Tally;
 use lowering::Parts;
-use lowering::Reads;
 use lowering::lower_parts;
+use lowering_lines::Reads;
 use lowering_refusals::Counts;
 use models::Flows;
 use models::Operands;
@@ -28,7 +28,7 @@ pub const FIRST_ROLE: usize = 6;
 // A count above its storage.
 const BAD_COUNT: u64 = 9;
 
-// Lowers as `lowering::lower_given` does, over the state's words. Gives the number of the refusal, or 0.
+// Lowers as `lowering_state::lower_given` does, over the state's words. Gives the number of the refusal, or 0.
 pub fn lower_words(
     list: &mut [u64],
     names: &mut [u8],

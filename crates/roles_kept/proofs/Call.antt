@@ -26,11 +26,13 @@ use Rattle.models.specs.Code.{operandsOf, flowsOf}
 use Rattle.models.specs.Model.{constantOf}
 use Rattle.riscv.specs.declared.Instruction.{Instruction}
 use Rattle.riscv.specs.Kind.{Kind, kindAt}
-use Rattle.roles.specs.Roles.{roleSort, role, registerNode, registerFlow, operandsFor, flowsIn, withFlows, withOutcome}
+use Rattle.roles.specs.Roles.{role, registerNode, registerFlow, operandsFor, flowsIn, withFlows, withOutcome}
+use Rattle.roles_check.specs.RolesFit.{roleSort}
 use Rattle.lowering_refusals.specs.declared.State.{State}
 use Rattle.lowering_refusals.specs.Refusal.{roomOf, countsOut, refusalOf}
 use Rattle.lowering_refusals.proofs.Within.{neither, within}
-use Rattle.lowering.specs.Lowering.{Lent, Answer, nameFor, programOf, settled, roomIn, loweringGiven, lowering}
+use Rattle.lowering.specs.Lowering.{Lent, Answer, programOf, settled, roomIn, loweringGiven, lowering}
+use Rattle.lowering_lines.specs.Lines.{nameFor}
 use Rattle.lowering.proofs.Accepted as A
 use Rattle.lowering_laws.specs.Lines.{linesOf, answerOf, behind, numbered}
 use Rattle.lowering_laws.specs.Accepted.{growth, Accepted}

@@ -15,7 +15,8 @@ use Rattle.models.specs.Counters.{modelAddress, wordAddress, bitOffset, modelL,
 use Rattle.models.specs.Kinds.{constant, link, withConstant, addend, sumWithConstant, modelAddi, shiftedBack, divided, modelBranch}
 use Rattle.models.specs.Model.{upper, constantOf, regFlowIte, unimplemented, translate}
 use Rattle.riscv.specs.Refusal.{refusal}
-use Rattle.roles.specs.Roles.{rolesFit, operandsFor, flowsIn, withFlows}
+use Rattle.roles.specs.Roles.{operandsFor, flowsIn, withFlows}
+use Rattle.roles_check.specs.RolesFit.{rolesFit}
 use Rattle.text.specs.Numeral.{numeral}
 use Rattle.text.specs.BadName.{badName}
 use Rattle.lowering_refusals.specs.Refusal.{roomOf, countsOut, indirectNeeds, linesAndEdges, roomOut, flagOut, refusalGiven}

@@ -19,7 +19,7 @@ use Rattle.lowering_refusals.proofs.Within.{neither}
 use Rattle.nid_check.specs.Identifiers.{taken, nidsOut}
 use Rattle.riscv.specs.Refusal.{first}
 use Rattle.riscv.proofs.First.{Tests}
-use Rattle.roles.specs.Roles.{rolesFit}
+use Rattle.roles_check.specs.RolesFit.{rolesFit}
 use Rattle.start.specs.Start.{startCountsOut, startRefusal}
 use Rattle.start.proofs.Tests.{from10, from11, from12, from13}
 

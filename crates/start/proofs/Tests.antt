@@ -10,7 +10,7 @@ use Rattle.lowering_refusals.specs.declared.Room.{Room}
 use Rattle.lowering_refusals.specs.declared.State.{State}
 use Rattle.nid_check.specs.Identifiers.{taken, nidsOut}
 use Rattle.riscv.proofs.First.{Tests}
-use Rattle.roles.specs.Roles.{rolesFit}
+use Rattle.roles_check.specs.RolesFit.{rolesFit}
 
 module _ (ws : List ℕ) (host : ℕ) (room : Room) (st : State) where
   abbrev pub from13 : Tests

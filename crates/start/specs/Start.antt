@@ -14,7 +14,7 @@ use Rattle.lowering_refusals.specs.declared.Room.{Room}
 use Rattle.lowering_refusals.specs.declared.State.{State}
 use Rattle.nid_check.specs.Identifiers.{taken, nidsOut}
 use Rattle.riscv.specs.Refusal.{first}
-use Rattle.roles.specs.Roles.{rolesFit}
+use Rattle.roles_check.specs.RolesFit.{rolesFit}
 
 -- 9: "more than 1,048,576 lines; a next identifier above 2^31 at the start [..]; or a count above its storage"
 unfoldable pub startCountsOut : Room → Tally → Counts → Bool

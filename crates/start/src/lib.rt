@@ -7,7 +7,7 @@ use lowering_refusals::Room;
 use lowering_refusals::State;
 use lowering_refusals::room_of;
 use nid_check::nids_out;
-use roles::roles_out;
+use roles_check::roles_out;
 use sort_check::sort_broken;
 ghost use mathlib.Core.Path.{_≡_};
 ghost use lib.ListN.{length};

@@ -1,0 +1,16 @@
+-- What is read of the roles, the call apart from them, and the roles after it. Assumes nothing.
+use borrow.Author.Needs.{needs}
+use Rattle.lowering_state.proofs.lower_given.Statement.{statement}
+use Rattle.lowering_state.proofs.lower_given.Tie as tie
+
+returns : tie.Need-returns
+returns c =
+    let call = c .before .before .before .before .before .before .before .before .before .before .before in
+    let read = call .before .before .before .before .before .before in
+    let a = read .before .before .before .before .before .before .before .before .before .args in
+    rw (c .joined .ensures) (call .lower-parts .ensures (a .state .roles) (read .reads-of .ensures))
+
+pub lower-given-spec : {M : Type 1} → statement M
+lower-given-spec =
+    tie.close
+    (tie.spec (λ c κs. search needs) (λ c κs. search needs) (λ c κs. search needs) (λ c. search needs) (λ c. search needs) (λ c. search needs) (λ c. search needs) (λ c. search needs) returns)
