@@ -1,19 +1,14 @@
-// In-edges, dispatches and bads, as records of numbers in slices that the host lends. Each put is total: where the slice holds no further
-// record it changes nothing.
-use btor2::NodeRef;
+// In-edges, as records of numbers in a slice that the host lends. Each put is total: where the slice holds no further record it changes nothing.
 use instruction_class::Class;
 use models::Outcome;
 ghost use mathlib.Core.Path.{_≡_};
 ghost use Prim.Native.Nat.{_+_, _≤_};
-ghost use mathlib.Core.List.{[], _∷_};
 ghost use Rattle.models.specs.Code.{outcomeOf};
 ghost use Rattle.edges.specs.Records.{putRecord};
 ghost use Rattle.edges.specs.Edges.{edge, edgesAfter, edgeCount, taken, other};
 
-// The words of an in-edge: to, from, origin, condition. The words of a dispatch: register, from.
+// The words of an in-edge: to, from, origin, condition.
 pub const EDGE: usize = 4;
-
-pub const DISPATCH: usize = 2;
 
 // The origins of an in-edge.
 pub const REGULAR: u64 = 0;
@@ -117,26 +112,4 @@ fn put_edge(edges: &mut [u64], at: usize, to: u64, from: u64, origin: u64, condi
     edges[b + 1] = from;
     edges[b + 2] = origin;
     edges[b + 3] = condition;
-}
-
-// Jalr under a register: a dispatch, behind `count` others.
-pub fn go_to_anywhere(dispatches: &mut [u64], count: usize, register: u64, from: u64)
-    ensures { λ _. ⌜ now (dispatches .exit) ≡ putRecord 2 (now (dispatches .entry)) count (register ∷ from ∷ []) ⌝ }
-{
-    if dispatches.len() / DISPATCH <= count {
-        return;
-    }
-    let b = count * DISPATCH;
-    dispatches[b] = register;
-    dispatches[b + 1] = from;
-}
-
-// The place of a bad line, behind `count` others.
-pub fn put_bad(bads: &mut [u64], count: usize, place: NodeRef)
-    ensures { λ _. ⌜ now (bads .exit) ≡ putRecord 1 (now (bads .entry)) count (place .0 ∷ []) ⌝ }
-{
-    if bads.len() <= count {
-        return;
-    }
-    bads[count] = place.0 as u64;
 }

@@ -182,7 +182,7 @@ fn put_appended(
     ensures { λ r. ⌜ Put (now (out .entry)) 0 (runText hostArea (now (names .entry)) (nodes (now (list .entry)) lines) from (lines - from) ++ edgesText (nodes (now (list .entry)) lines) (now (edges .entry)) (c .edges) ++ dispatchesText (now (dispatches .entry)) (c .dispatches)) (now (out .exit)) r ⌝ }
 {
     let p = put_lines(out, list, names, from, lines);
-    let q = listing_text::put_edges(out, p, list, lines, edges, c.edges);
+    let q = listing_edges::put_edges(out, p, list, lines, edges, c.edges);
     listing_text::put_dispatches(out, q, dispatches, c.dispatches)
 }
 

@@ -171,10 +171,10 @@ fn put_indirect(
     if s {
         let place = bad_place(d, lines);
         text::put_bad_name(names, c.names, address);
-        edges::put_bad(bads, c.bads, place);
+        dispatches::put_bad(bads, c.bads, place);
         return;
     }
-    edges::go_to_anywhere(dispatches, c.dispatches, rs1, address);
+    dispatches::go_to_anywhere(dispatches, c.dispatches, rs1, address);
 }
 
 // The bad line stands behind the link's two lines, which there are where rd is not x0.

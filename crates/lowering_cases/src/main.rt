@@ -240,10 +240,10 @@ fn show_dispatches(dispatches: &[u64], from: usize, to: usize) {
 }
 
 fn show_dispatch(dispatches: &[u64], at: usize) {
-    if dispatches.len() / edges::DISPATCH <= at {
+    if dispatches.len() / dispatches::DISPATCH <= at {
         return;
     }
-    let b = at * edges::DISPATCH;
+    let b = at * dispatches::DISPATCH;
     io::write_all(STDOUT_FILENO, b"dyn ");
     show(dispatches[b], b" ");
     show(dispatches[b + 1], b"\n");

@@ -46,7 +46,7 @@ pub fn room_of(list: usize, names: usize, edges: usize, dispatches: usize, bads:
         lines: list / btor2_list::STRIDE,
         names,
         edges: edges / edges::EDGE,
-        dispatches: dispatches / edges::DISPATCH,
+        dispatches: dispatches / dispatches::DISPATCH,
         bads,
     }
 }

@@ -7,7 +7,7 @@ use builder::Tally;
 use builder_bin::Bin;
 use builder_lines::new_bad;
 use builder_lines::new_ite;
-use builder_ops::Operator;
+use builder_operator::Operator;
 use models::Flows;
 use models::Modeled;
 use models::Operands;
@@ -85,8 +85,8 @@ fn model_kind(
     ensures { λ r. ⌜ Gives (now (list .entry)) t (model (operandsOf e) (flowsOf f) imm (kindAt kind) z d s) (now (list .exit)) (r .tally) (modeledOf r) ⌝ }
 {
     match kind {
-        LUI => models_immediate::constant(list, t, f, imm),
-        AUIPC => models_immediate::constant(list, t, f, imm),
+        LUI => models_constant::constant(list, t, f, imm),
+        AUIPC => models_constant::constant(list, t, f, imm),
         LB => models_load::load(list, t, e, f, z, imm, 56, true),
         LH => models_load::load(list, t, e, f, z, imm, 48, true),
         LW => models_load::load(list, t, e, f, z, imm, 32, true),
@@ -106,9 +106,9 @@ fn model_kind(
         SRLI => models_immediate::with_constant(list, t, Operator::Srl, e, f, imm),
         SRAI => models_immediate::with_constant(list, t, Operator::Sra, e, f, imm),
         ADDIW => models_addition::model_addiw(list, t, e, f, imm),
-        SLLIW => models_immediate::model_slliw(list, t, e, f, imm),
-        SRLIW => models_immediate::shifted_back(list, t, Operator::Srl, e, f, imm),
-        SRAIW => models_immediate::shifted_back(list, t, Operator::Sra, e, f, imm),
+        SLLIW => models_shift32::model_slliw(list, t, e, f, imm),
+        SRLIW => models_shift32::shifted_back(list, t, Operator::Srl, e, f, imm),
+        SRAIW => models_shift32::shifted_back(list, t, Operator::Sra, e, f, imm),
         ADD => models_word::summed(list, t, Bin::Add, e, f),
         SUB => models_word::summed(list, t, Bin::Sub, e, f),
         SLL => models_register::shifted(list, t, Operator::Sll, e, f),
@@ -126,15 +126,15 @@ fn model_kind(
         SUBW => models_word::summed_word(list, t, Bin::Sub, e, f),
         SLLW => models_word::model_sllw(list, t, e, f),
         MULW => models_product::model_mulw(list, t, e, f),
-        BEQ => models_register::model_branch(list, t, Operator::Eq, e, f),
-        BNE => models_register::model_branch(list, t, Operator::Neq, e, f),
-        BLT => models_register::model_branch(list, t, Operator::Slt, e, f),
-        BGE => models_register::model_branch(list, t, Operator::Sgte, e, f),
-        BLTU => models_register::model_branch(list, t, Operator::Ult, e, f),
-        BGEU => models_register::model_branch(list, t, Operator::Ugte, e, f),
-        JAL => models_immediate::link(list, t, f, imm, d),
-        JALR => models_immediate::link(list, t, f, imm, d),
-        _ => models_register::model_ecall(list, t, e, f),
+        BEQ => models_control::model_branch(list, t, Operator::Eq, e, f),
+        BNE => models_control::model_branch(list, t, Operator::Neq, e, f),
+        BLT => models_control::model_branch(list, t, Operator::Slt, e, f),
+        BGE => models_control::model_branch(list, t, Operator::Sgte, e, f),
+        BLTU => models_control::model_branch(list, t, Operator::Ult, e, f),
+        BGEU => models_control::model_branch(list, t, Operator::Ugte, e, f),
+        JAL => models_constant::link(list, t, f, imm, d),
+        JALR => models_constant::link(list, t, f, imm, d),
+        _ => models_control::model_ecall(list, t, e, f),
     }
 }
 

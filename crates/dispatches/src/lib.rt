@@ -1,0 +1,31 @@
+// Dispatches and bads, as records of numbers in slices that the host lends. Each put is total: where the slice holds no further record it
+// changes nothing.
+use btor2::NodeRef;
+ghost use mathlib.Core.Path.{_≡_};
+ghost use mathlib.Core.List.{[], _∷_};
+ghost use Rattle.edges.specs.Records.{putRecord};
+
+// The words of a dispatch: register, from.
+pub const DISPATCH: usize = 2;
+
+// Jalr under a register: a dispatch, behind `count` others.
+pub fn go_to_anywhere(dispatches: &mut [u64], count: usize, register: u64, from: u64)
+    ensures { λ _. ⌜ now (dispatches .exit) ≡ putRecord 2 (now (dispatches .entry)) count (register ∷ from ∷ []) ⌝ }
+{
+    if dispatches.len() / DISPATCH <= count {
+        return;
+    }
+    let b = count * DISPATCH;
+    dispatches[b] = register;
+    dispatches[b + 1] = from;
+}
+
+// The place of a bad line, behind `count` others.
+pub fn put_bad(bads: &mut [u64], count: usize, place: NodeRef)
+    ensures { λ _. ⌜ now (bads .exit) ≡ putRecord 1 (now (bads .entry)) count (place .0 ∷ []) ⌝ }
+{
+    if bads.len() <= count {
+        return;
+    }
+    bads[count] = place.0 as u64;
+}
