@@ -1,15 +1,12 @@
-// Decimal numbers put into an output, wherever it ends: past its end the digits are only counted.
+// Decimal numbers put into an output: past its end the digits are only counted.
 ghost use mathlib.Core.Path.{_≡_};
-ghost use Prim.Native.Nat.{_+_, _-_, _%_, _^_, min};
+ghost use Prim.Native.Nat.{_+_, _-_, _^_, min};
 ghost use lib.ListN.{length};
-ghost use Rattle.text.specs.Numeral.{glyph, numeral, decimalText};
+ghost use Rattle.text.specs.Numeral.{decimalText};
 ghost use Rattle.text.specs.Put.{Put};
 
 // The largest place: past every slice.
 const LAST: usize = 18446744073709551615;
-
-// The most digits of a number.
-const MOST: usize = 20;
 
 pub fn put_decimal(out: &mut [u8], at: usize, x: u64) -> usize
     ensures { λ r. ⌜ Put (now (out .entry)) at (decimalText x) (now (out .exit)) r ⌝ }
@@ -17,7 +14,7 @@ pub fn put_decimal(out: &mut [u8], at: usize, x: u64) -> usize
     if out.len() <= at {
         return behind(at, decimal_len(x));
     }
-    put_tens(out, at, x, MOST)
+    text::put_decimal(out, at, x)
 }
 
 // The place n behind another, capped at the largest.
@@ -28,29 +25,6 @@ fn behind(at: usize, n: usize) -> usize
         return LAST;
     }
     at + n
-}
-
-// The last digit of x in ASCII.
-fn last_digit(x: u64) -> u8
-    ensures { λ r. ⌜ r ≡ glyph (x % 10) ⌝ }
-{
-    let d = x % 10;
-    48 + d as u8
-}
-
-// x in decimal, at most k digits.
-fn put_tens(out: &mut [u8], at: usize, x: u64, k: usize) -> usize
-    ensures { λ r. ⌜ Put (now (out .entry)) at (numeral 10 k x) (now (out .exit)) r ⌝ }
-{
-    if k == 0 {
-        return at;
-    }
-    let d = last_digit(x);
-    if x < 10 {
-        return text::put_byte(out, at, d);
-    }
-    let p = put_tens(out, at, x / 10, k - 1);
-    text::put_byte(out, p, d)
 }
 
 // How many digits x has, by twos. The smallest numbers come first: most are identifiers and sorts.

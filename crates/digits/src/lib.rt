@@ -2,9 +2,9 @@
 // division is by more than constants.
 ghost use mathlib.Core.Path.{_≡_};
 ghost use mathlib.Core.List.{_∷_};
-ghost use Prim.Native.Nat.{_+_, _-_, _*_, _/_, _%_, _^_, _<_, _≤_, min};
+ghost use Prim.Native.Nat.{_+_, _-_, _*_, _/_, _%_, _<_, _≤_};
 ghost use lib.ListN.{length};
-ghost use Rattle.text.specs.Numeral.{glyph, numeral, decimalText};
+ghost use Rattle.text.specs.Numeral.{glyph, decimalText};
 ghost use Rattle.text.specs.Put.{Put};
 ghost use Rattle.digits.specs.Pairs.{two, four, eight};
 
@@ -65,7 +65,7 @@ fn put_twelve(out: &mut [u8], at: usize, x: u64) -> usize
     ensures { λ r. ⌜ Put (now (out .entry)) at (decimalText x) (now (out .exit)) r × (r ≤ at + 12) ⌝ }
 {
     if x < 100000000 {
-        return decimal::put_decimal(out, at, x);
+        return put_eight(out, at, x as u32);
     }
     let first = x / 100000000;
     let last = x % 100000000;

@@ -1,7 +1,7 @@
 -- Lines whose text is known: document 01's listing, and unicorn's formats. Assumes nothing.
 use Prim.Native.Nat.{ℕ, _^_, _-_}
 use mathlib.Core.Path.{_≡_, refl}
-use mathlib.Core.List.{List, [], _∷_}
+use mathlib.Core.List.{List}
 use Rattle.btor2.specs.declared.Name.{Name}
 use Rattle.btor2.specs.declared.NodeType.the-variants.{Bit, Word, Input3Byte}
 use Rattle.btor2.specs.Op.{ult, const, bin, uext, ite, not, stateInit, bad}

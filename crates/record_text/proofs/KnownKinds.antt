@@ -10,7 +10,7 @@ use borrow.Author.Tests.{eqb-true, ne-eqb}
 use Rattle.btor2.specs.declared.NodeType.{NodeType}
 use Rattle.btor2.specs.declared.NodeType.the-variants.{Bit, Word, Memory, Input1Byte, Input2Byte, Input3Byte, Input4Byte, Input5Byte, Input6Byte, Input7Byte}
 use Rattle.btor2.specs.declared.MaybeSort.{MaybeSort}
-use Rattle.btor2.specs.declared.MaybeSort.the-variants.{Sort, NoSort}
+use Rattle.btor2.specs.declared.MaybeSort.the-variants.{Sort}
 use Rattle.btor2.specs.Sort.{sortNumber, firstNumbered, sortNumbered}
 use Rattle.btor2.specs.declared.Name.{Name}
 use Rattle.btor2.specs.Op.{state, stateInit, unknown, mapOp}

@@ -1,5 +1,5 @@
 -- A digit with the word, or a number behind it. Assumes nothing.
-use Prim.Native.Nat.{ℕ, _+_}
+use Prim.Native.Nat.{_+_}
 use mathlib.Core.Path.{_≡_}
 use mathlib.Core.List.{[], _∷_, append-assoc}
 use borrow.Author.Tests.{lt-ltb}

@@ -1,5 +1,5 @@
 -- The mark of a name says which bytes are printed. Assumes nothing.
-use Rattle.text.proofs.Laws.{nothing, put-as}
+use Rattle.text.proofs.Laws.{put-as}
 use Rattle.record_text.specs.Line.{printedName}
 use borrow.Author.Tests.{eq-eqb, ne-eqb}
 use borrow.Author.Needs.{needs}

@@ -1,5 +1,4 @@
 -- The word and the byte, with room for both or one after the other. Assumes nothing.
-use mathlib.Core.List.{[], _∷_}
 use mathlib.Core.Path.{refl}
 use native.Mathlib.Omega.{arith}
 use Rattle.text.proofs.Laws.{then, put-length}

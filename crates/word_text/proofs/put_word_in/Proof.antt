@@ -1,6 +1,6 @@
 -- Each word, letter by letter; past the last only the spaces. Assumes nothing.
-use mathlib.Core.Path.{_≡_, sym, ap}
-use mathlib.Core.List.{List, [], _∷_}
+use mathlib.Core.Path.{sym, ap}
+use mathlib.Core.List.{List}
 use native.Mathlib.Omega.{arith}
 use Rattle.text.proofs.Laws.{put-as}
 use Rattle.word_text.specs.Words.{spaced}
