@@ -1,6 +1,6 @@
 -- Of the lines of a known kind and sort, the kind tells which carry a value. Assumes nothing.
 use Prim.Native.Nat.{ℕ, _*_, _/_, _<_}
-use mathlib.Core.Path.{_≡_, refl, _∙_}
+use mathlib.Core.Path.{_≡_, refl, sym, _∙_, ap, fun-ext}
 use mathlib.Core.Bool.{Bool, true, false, cond, _||_}
 use mathlib.Core.Bool as B
 use mathlib.Core.List.{List}
@@ -16,12 +16,14 @@ use Rattle.btor2.specs.declared.MaybeSort.the-variants.{Sort, NoSort}
 use Rattle.btor2.specs.Sort.{sortNumbered}
 use Rattle.btor2.specs.Op.{Op, next, carried}
 use Rattle.btor2_list.specs.declared.Line.{Line}
-use Rattle.btor2_list.specs.Record.{stride, word, lineAt}
+use Rattle.btor2_list.specs.Record.{stride, lineAt}
 use Rattle.btor2_list.specs.Node.{withSort, opOf}
-use Rattle.list_check.specs.Formed.{isUnknown, hasValue}
+use Rattle.list_check.specs.Formed.{isUnknown, hasValue, opUnformed}
+use Rattle.list_check.specs.Lines.{some}
 use Rattle.list_check.specs.Operand.{noValueAt}
-use Rattle.list_check.specs.Scan.{Reached}
-use Rattle.list_check.proofs.Formed.{seen-value}
+use Rattle.list_check.specs.Scan.{outBefore, scanUnformed}
+use Rattle.list_check.proofs.Some.{some-none}
+use Rattle.list_check.proofs.Formed.{said, recordUnformed, seen-value, formed-line}
 
 -- it carries a value unless it is unknown
 abbrev Valued : Op ℕ → Type 0
@@ -81,9 +83,13 @@ module _ (l : Line) where
       go (no n) (no b) =
           let neither : false ≡ (eqb (l .kind) 20 || eqb (l .kind) 22) = rw (ne-eqb (l .kind) 20 n, ne-eqb (l .kind) 22 b) in valued n b ∙ known ∙ neither
 
--- the test of an operand in a scan: a place from line i on, or that of a Next or a Bad, is none of an earlier value line
-pub short : (ws : List ℕ) (i : ℕ) → Reached ws i → (q : ℕ)
-    → noValueAt ws i q ≡ (leb i q || (eqb (word ws (q * stride) 1) 20 || eqb (word ws (q * stride) 1) 22))
+-- the words hold line i, and each line before it has a known kind and sort
+pub record Reached (ws : List ℕ) (i : ℕ) : Type 0 where
+  pub held : i < length ws / stride
+  pub known : (q : ℕ) → q < i → isUnknown (said ws q) ≡ false
+
+-- where a scan has reached a line, its test of an operand is the lookup's
+short : (ws : List ℕ) (i : ℕ) → Reached ws i → (q : ℕ) → outBefore ws i q ≡ noValueAt ws i q
 unfolding lineAt
 short ws i r q =
     by-le i q
@@ -91,4 +97,13 @@ short ws i r q =
     (λ h.
     let there : q < length ws / stride = omega (arith, r .held) in
     let l = lineAt ws (q * stride) in
-    rw (lt-ltb q i h, lt-leb i q h, lt-ltb _ _ there) (seen-value (l .nid .0) (carried (opOf l)) ∙ by-kind l (r .known q h)))
+    rw (lt-ltb q i h, lt-leb i q h, lt-ltb _ _ there) (sym (seen-value (l .nid .0) (carried (opOf l)) ∙ by-kind l (r .known q h))))
+
+-- and its test of the line is the record's
+pub scanned : (ws : List ℕ) (i host ours : ℕ) → Reached ws i → scanUnformed ws i host ours ≡ recordUnformed host ours ws i
+scanned ws i host ours r = rw (lt-ltb _ _ (r .held)) (ap (λ (out : ℕ → Bool). opUnformed host ours out (said ws i)) (fun-ext (short ws i r)))
+
+-- a scan that has found the lines before a line well formed has reached it
+pub reached : (ws : List ℕ) (i host ours : ℕ) → i < length ws / stride → some i (recordUnformed host ours ws) ≡ false → Reached ws i
+reached ws i host ours h none =
+    record { held = h; known = λ q l. formed-line host ours (noValueAt ws q) (said ws q) (some-none i (recordUnformed host ours ws) none q l) .0 }

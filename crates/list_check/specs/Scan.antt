@@ -1,19 +1,21 @@
--- What only private contracts cite: the line that a scan of the list has come to.
-use Prim.Native.Nat.{ℕ, _*_, _/_, _<_}
-use mathlib.Core.Path.{_≡_}
-use mathlib.Core.Bool.{Bool, false}
+-- The test of a line in a scan of the list, which has found that each line before it has a known kind and sort: of those only Next and Bad
+-- carry no value (btor2/specs/Op), so that an operand is told by its place and its kind.
+use Prim.Native.Nat.{ℕ, _*_}
+use mathlib.Core.Bool.{Bool, true, cond, _||_}
 use mathlib.Core.List.{List}
-use lib.ListN.{length}
-use Rattle.btor2_list.specs.Record.{stride, word, lineAt}
+use lib.Dec.{eqb, leb}
+use Rattle.btor2_list.specs.Record.{stride, word, lineAt, holds}
 use Rattle.btor2_list.specs.Node.{opOf}
-use Rattle.list_check.specs.Formed.{isUnknown}
-use Rattle.list_check.specs.Operand.{noValueAt}
+use Rattle.list_check.specs.Formed.{opUnformed}
 
--- the words hold line i, and each line before it has a known kind and sort
-pub record Reached (ws : List ℕ) (i : ℕ) : Type 0 where
-  pub held : i < length ws / stride
-  pub known : (q : ℕ) → q < i → isUnknown (opOf (lineAt ws (q * stride))) ≡ false
+-- place q is that of no line before line i, or of a Next (20) or a Bad (22)
+abbrev pub outBefore : List ℕ → ℕ → ℕ → Bool
+outBefore ws i q = leb i q || (eqb (word ws (q * stride) 1) 20 || eqb (word ws (q * stride) 1) 22)
 
--- word k of line i is not the place of an earlier value line
+-- 11, of line i; or the words do not hold it
+abbrev pub scanUnformed : List ℕ → ℕ → ℕ → ℕ → Bool
+scanUnformed ws i host ours = cond (holds ws i) (opUnformed host ours (outBefore ws i) (opOf (lineAt ws (i * stride)))) true
+
+-- word k of line i, an operand, is out
 abbrev pub outAt : List ℕ → ℕ → ℕ → Bool
-outAt ws i k = noValueAt ws i (word ws (i * stride) k)
+outAt ws i k = outBefore ws i (word ws (i * stride) k)

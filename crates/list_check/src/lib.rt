@@ -41,14 +41,14 @@ ghost use mathlib.Core.Path.{_≡_};
 ghost use mathlib.Core.Bool.{not, _&&_, _||_};
 ghost use lib.Dec.{eqb, ltb};
 ghost use mathlib.Core.List.{[], _∷_};
-ghost use Prim.Native.Nat.{ℕ, _+_, _*_, _<_};
+ghost use Prim.Native.Nat.{ℕ, _+_, _*_, _/_, _<_};
+ghost use lib.ListN.{length};
 ghost use Rattle.btor2.specs.Sort.{sortNumbered};
 ghost use Rattle.btor2_list.specs.Record.{stride, word, lineAt};
 ghost use Rattle.btor2_list.specs.Node.{opOf};
 ghost use Rattle.list_check.specs.Lines.{any};
 ghost use Rattle.list_check.specs.Formed.{nameOutside, hasValue, opUnformed, unformedWords};
-ghost use Rattle.list_check.specs.Operand.{noValueAt};
-ghost use Rattle.list_check.specs.Scan.{Reached, outAt};
+ghost use Rattle.list_check.specs.Scan.{outBefore, scanUnformed, outAt};
 
 // 11: some line has an unknown kind or sort, extends a Memory, names an operand that is no earlier value line, or has a name outside its
 // area. `host` and `ours` are the lengths of the two areas. True where the words do not hold as many lines.
@@ -68,10 +68,19 @@ pub fn unformed(list: &[u64], lines: usize, host: usize, ours: usize) -> bool
     false
 }
 
-// The same of line i alone, where each line before it has a known kind and sort.
-fn line_unformed(list: &[u64], i: usize, host: usize, ours: usize) -> bool
-    requires { ⌜ Reached (now list) i ⌝ }
-    ensures { λ r. ⌜ r ≡ opUnformed host ours (noValueAt (now (list .entry)) i) (opOf (lineAt (now (list .entry)) (i * stride))) ⌝ }
+// The same of line i alone, in a scan that has found that each line before it has a known kind and sort.
+pub fn line_unformed(list: &[u64], i: usize, host: usize, ours: usize) -> bool
+    ensures { λ r. ⌜ r ≡ scanUnformed (now (list .entry)) i host ours ⌝ }
+{
+    if list.len() / STRIDE <= i {
+        return true;
+    }
+    record_unformed(list, i, host, ours)
+}
+
+fn record_unformed(list: &[u64], i: usize, host: usize, ours: usize) -> bool
+    requires { ⌜ i < length (now list) / 10 ⌝ }
+    ensures { λ r. ⌜ r ≡ opUnformed host ours (outBefore (now (list .entry)) i) (opOf (lineAt (now (list .entry)) (i * stride))) ⌝ }
 {
     let at = i * STRIDE;
     let kind = list[at + AT_KIND];
@@ -104,8 +113,8 @@ fn line_unformed(list: &[u64], i: usize, host: usize, ours: usize) -> bool
 
 // An Ext: the sort that it extends from is unknown or Memory, or its operand is out.
 fn extended_out(list: &[u64], i: usize) -> bool
-    requires { ⌜ Reached (now list) i ⌝ }
-    ensures { λ r. ⌜ ((host ours : ℕ) → word (now (list .entry)) (i * stride) 1 ≡ 13 → r ≡ opUnformed host ours (noValueAt (now (list .entry)) i) (opOf (lineAt (now (list .entry)) (i * stride)))) ⌝ }
+    requires { ⌜ i < length (now list) / 10 ⌝ }
+    ensures { λ r. ⌜ ((host ours : ℕ) → word (now (list .entry)) (i * stride) 1 ≡ 13 → r ≡ opUnformed host ours (outBefore (now (list .entry)) i) (opOf (lineAt (now (list .entry)) (i * stride)))) ⌝ }
 {
     let at = i * STRIDE;
     let MaybeSort::Sort(from) = sort_of(list[at + AT_SORT]) else {
@@ -116,7 +125,7 @@ fn extended_out(list: &[u64], i: usize) -> bool
 
 // A State has an operand where the constant is not 0.
 fn state_out(list: &[u64], i: usize, host: usize, ours: usize) -> bool
-    requires { ⌜ Reached (now list) i ⌝ }
+    requires { ⌜ i < length (now list) / 10 ⌝ }
     ensures { λ r. ⌜ r ≡ (nameOutside host ours (lineAt (now (list .entry)) (i * stride) .name) || (not (eqb (word (now (list .entry)) (i * stride) 6) 0) && outAt (now (list .entry)) i 3)) ⌝ }
 {
     let at = i * STRIDE;
@@ -125,7 +134,7 @@ fn state_out(list: &[u64], i: usize, host: usize, ours: usize) -> bool
 
 // Its first two operands.
 fn two_out(list: &[u64], i: usize) -> bool
-    requires { ⌜ Reached (now list) i ⌝ }
+    requires { ⌜ i < length (now list) / 10 ⌝ }
     ensures { λ r. ⌜ r ≡ any (outAt (now (list .entry)) i) (3 ∷ 4 ∷ []) ⌝ }
 {
     operand_out(list, i, AT_OP1) || operand_out(list, i, AT_OP2)
@@ -133,7 +142,7 @@ fn two_out(list: &[u64], i: usize) -> bool
 
 // All three.
 fn three_out(list: &[u64], i: usize) -> bool
-    requires { ⌜ Reached (now list) i ⌝ }
+    requires { ⌜ i < length (now list) / 10 ⌝ }
     ensures { λ r. ⌜ r ≡ any (outAt (now (list .entry)) i) (3 ∷ 4 ∷ 5 ∷ []) ⌝ }
 {
     operand_out(list, i, AT_OP1) || (operand_out(list, i, AT_OP2) || operand_out(list, i, AT_OP3))
@@ -142,7 +151,7 @@ fn three_out(list: &[u64], i: usize) -> bool
 // The operand at word k is out: not the place of a value line before line i. Of lines of a known kind and sort only Next and Bad carry no
 // value, so that no sort is looked at.
 fn operand_out(list: &[u64], i: usize, k: usize) -> bool
-    requires { ⌜ Reached (now list) i × (k < 10) ⌝ }
+    requires { ⌜ (i < length (now list) / 10) × (k < 10) ⌝ }
     ensures { λ r. ⌜ r ≡ outAt (now (list .entry)) i k ⌝ }
 {
     let at = i * STRIDE;
@@ -157,7 +166,7 @@ fn operand_out(list: &[u64], i: usize, k: usize) -> bool
 
 // Its own sort is unknown.
 fn no_sort(list: &[u64], i: usize) -> bool
-    requires { ⌜ Reached (now list) i ⌝ }
+    requires { ⌜ i < length (now list) / 10 ⌝ }
     ensures { λ r. ⌜ r ≡ not (hasValue (sortNumbered (word (now (list .entry)) (i * stride) 2))) ⌝ }
 {
     let at = i * STRIDE;
@@ -169,7 +178,7 @@ fn no_sort(list: &[u64], i: usize) -> bool
 
 // A name that is not missing has all its bytes in its area. A mark that is none of the two areas' and not 0 is outside.
 fn name_out(list: &[u64], i: usize, host: usize, ours: usize) -> bool
-    requires { ⌜ Reached (now list) i ⌝ }
+    requires { ⌜ i < length (now list) / 10 ⌝ }
     ensures { λ r. ⌜ r ≡ nameOutside host ours (lineAt (now (list .entry)) (i * stride) .name) ⌝ }
 {
     let at = i * STRIDE;

@@ -9,7 +9,8 @@ use Rattle.btor2.specs.Op.{Op, const, read, write, bin, uext, ite, eq, and, or,
 use Rattle.btor2_list.specs.Record.{stride, lineAt}
 use Rattle.btor2_list.specs.Node.{opOf}
 use Rattle.list_check.specs.Lines.{some, pastWords}
-use Rattle.list_check.specs.Formed.{unformedWords}
+use Rattle.list_check.specs.Formed.{opUnformed, unformedWords}
+use Rattle.list_check.specs.Operand.{noValueAt}
 use Rattle.print.specs.Printing.{nidOut, nidsOut, boundsOut}
 
 -- what the record at place p says
@@ -44,9 +45,10 @@ rooms ws (suc n) = rooms ws n + roomOf (said ws n)
 abbrev pub runOut : List ℕ → ℕ → ℕ → ℕ → Bool
 runOut ws lines from count = ltb 1048576 lines || (pastWords ws lines || ltb lines (from + count))
 
--- the first n lines have identifiers in bounds, and r has room for their names
-pub record Surveyed (ws : List ℕ) (lines n r : ℕ) : Type 0 where
+-- the first n lines have neither 9 nor 11, and r has room for their names
+pub record Surveyed (ws : List ℕ) (lines host ours n r : ℕ) : Type 0 where
   pub nids : some n (nidOut ws lines) ≡ false
+  pub formed : some n (λ p. opUnformed host ours (noValueAt ws p) (said ws p)) ≡ false
   pub room : rooms ws n ≤ r
 
 pub record Roomy (ws : List ℕ) (lines host ours from count end : ℕ) : Type 0 where

@@ -28,7 +28,7 @@ pub enum Printed {
 }
 
 // Puts the `count` lines from place `from` on at the output's start. `lines` is how many lines the list has; `host` and `ours` are the areas
-// of the names. A refusal changes nothing. Where two passes over the list find that no refusal applies, as there is room for lines as long as
+// of the names. A refusal changes nothing. Where one pass over the list finds that no refusal applies, as there is room for lines as long as
 // they can be, the run is put at once; else the refusals are tested one by one, and the run is measured.
 pub fn print<'a>(
     list: &[u64],
@@ -74,26 +74,27 @@ fn roomy(
     if run_out(list, lines, from, count) {
         return false;
     }
-    if list_check::unformed(list, lines, host, ours) {
-        return false;
-    }
-    let names = survey(list, lines);
+    let names = survey(list, lines, host, ours);
     if end <= names {
         return false;
     }
     LINE_ROOM * count <= end - names
 }
 
-// The room for the names of all lines, or the largest number where a line has too large an identifier.
-fn survey(list: &[u64], lines: usize) -> usize
+// The room for the names of all lines, or the largest number where a line has too large an identifier or is not well formed: one pass for
+// both, as the list is longer than caches are.
+fn survey(list: &[u64], lines: usize, host: usize, ours: usize) -> usize
     requires { ⌜ lines ≤ length (now list) / 10 ⌝ }
-    ensures { λ r. ⌜ (r < 2 ^ 64 - 1 → Surveyed (now (list .entry)) lines lines r) ⌝ }
+    ensures { λ r. ⌜ (r < 2 ^ 64 - 1 → Surveyed (now (list .entry)) lines host ours lines r) ⌝ }
 {
     let mut names = 0;
     let mut i = 0;
     while i < lines {
         let at = i * btor2_list::STRIDE;
         if MOST_NID < list[at] {
+            return LAST;
+        }
+        if list_check::line_unformed(list, i, host, ours) {
             return LAST;
         }
         names = name_room(list, i, names);

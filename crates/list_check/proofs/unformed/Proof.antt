@@ -9,9 +9,9 @@ use borrow.Author.Tests.{lt-ltb, le-ltb}
 use lib.ListN.{length}
 use Rattle.btor2_list.specs.Record.{stride}
 use Rattle.list_check.specs.Lines.{some}
-use Rattle.list_check.specs.Operand.{noValueAt}
-use Rattle.list_check.proofs.Some.{some-hit, some-on, some-none}
-use Rattle.list_check.proofs.Formed.{said, recordUnformed, by-records, formed-line}
+use Rattle.list_check.proofs.Some.{some-hit, some-on}
+use Rattle.list_check.proofs.Formed.{recordUnformed, by-records}
+use Rattle.list_check.proofs.Scan.{reached, scanned}
 use Rattle.list_check.proofs.unformed.Statement.{statement}
 use Rattle.list_check.proofs.unformed.Tie as tie
 
@@ -28,27 +28,21 @@ loop-holds : tie.Need-loop-holds Inv-loop μ-loop
 unfolding some
 loop-holds c = (c .if1 .left, omega arith, refl)
 
--- each line before this one has a known kind and sort
-line-unformed-requires : tie.Need-line-unformed-requires Inv-loop μ-loop
-line-unformed-requires c κs =
-    let l = c .before in
-    let a = l .before .before .before .args in
-    let formed = some-none (l .loop .i) (recordUnformed (a .host) (a .ours) (now (a .list))) (l .loop .inv .2) in
-    record { held = omega arith; known = λ q h. formed-line (a .host) (a .ours) (noValueAt (now (a .list)) q) (said (now (a .list)) q) (formed q h) .0 }
-
 returns-2 : tie.Need-returns-2 Inv-loop μ-loop
 returns-2 c =
     let l = c .before .before .before in
     let a = l .before .before .before .args in
+    let told = scanned (now (a .list)) (l .loop .i) (a .host) (a .ours) (reached (now (a .list)) (l .loop .i) (a .host) (a .ours) (omega arith) (l .loop .inv .2)) in
     rw (le-ltb (length (now (a .list)) / stride) (a .lines) (l .loop .inv .0))
     (sym (by-records (now (a .list)) (a .lines) (l .loop .inv .0) (a .host) (a .ours)
-    ∙ some-hit (a .lines) (recordUnformed (a .host) (a .ours) (now (a .list))) (l .loop .i) (omega arith) (sym (c .before .line-unformed .ensures) ∙ c .if2 .taken)))
+    ∙ some-hit (a .lines) (recordUnformed (a .host) (a .ours) (now (a .list))) (l .loop .i) (omega arith) (sym told ∙ sym (c .before .line-unformed .ensures) ∙ c .if2 .taken)))
 
 loop-again : tie.Need-loop-again Inv-loop μ-loop
 loop-again c =
     let l = c .before .before .before in
     let a = l .before .before .before .args in
-    (l .loop .inv .0, omega arith, some-on (l .loop .i) (recordUnformed (a .host) (a .ours) (now (a .list))) (l .loop .inv .2) (sym (c .before .line-unformed .ensures) ∙ c .if2 .left))
+    let told = scanned (now (a .list)) (l .loop .i) (a .host) (a .ours) (reached (now (a .list)) (l .loop .i) (a .host) (a .ours) (omega arith) (l .loop .inv .2)) in
+    (l .loop .inv .0, omega arith, some-on (l .loop .i) (recordUnformed (a .host) (a .ours) (now (a .list))) (l .loop .inv .2) (sym told ∙ sym (c .before .line-unformed .ensures) ∙ c .if2 .left))
 
 returns-3 : tie.Need-returns-3 Inv-loop μ-loop
 returns-3 c =
@@ -61,4 +55,4 @@ returns-3 c =
 pub unformed-spec : {M : Type 1} → statement M
 unformed-spec =
     tie.close
-    (tie.spec Inv-loop μ-loop returns loop-holds line-unformed-requires returns-2 (λ c. search needs) (λ c. omega arith) loop-again returns-3)
+    (tie.spec Inv-loop μ-loop returns loop-holds (λ c κs. search needs) returns-2 (λ c. search needs) (λ c. omega arith) loop-again returns-3)

@@ -4,7 +4,8 @@ use mathlib.Core.Path.{sym, _∙_}
 use mathlib.Core.Bool.{true≢false}
 use denote.Ref.{now}
 use native.Mathlib.Omega.{arith}
-use borrow.Author.Tests.{leb-true}
+use borrow.Author.Tests.{le-ltb, leb-true}
+use Rattle.list_check.proofs.Formed.{by-records}
 use Rattle.print.specs.Printing.{nidsOut}
 use Rattle.print.proofs.Bounds.{in-run, inside}
 use borrow.Author.Needs.{needs}
@@ -14,29 +15,23 @@ use Rattle.print.proofs.roomy.Tie as tie
 returns : tie.Need-returns
 returns c h = absurd (true≢false (sym h))
 
+survey-requires : tie.Need-survey-requires
+survey-requires c κs =
+    let a = c .before .before .before .args in inside (now (a .list)) (a .lines) (a .from) (a .count) (sym (c .before .run-out .ensures) ∙ c .if1 .left) .1
+
 returns-2 : tie.Need-returns-2
 returns-2 c h = absurd (true≢false (sym h))
 
-survey-requires : tie.Need-survey-requires
-survey-requires c κs =
-    let e = c .before .before in
-    let a = e .before .before .before .args in
-    inside (now (a .list)) (a .lines) (a .from) (a .count) (sym (e .before .run-out .ensures) ∙ e .if1 .left) .1
-
-returns-3 : tie.Need-returns-3
-returns-3 c h = absurd (true≢false (sym h))
-
 mul-result : tie.Need-mul-result
 mul-result c =
-    let e = c .before .before .before .before in
+    let e = c .before .before in
     let a = e .before .before .before .args in
     let i = inside (now (a .list)) (a .lines) (a .from) (a .count) (sym (e .before .run-out .ensures) ∙ e .if1 .left) in record { fits = omega arith }
 
-returns-4 : tie.Need-returns-4
+returns-3 : tie.Need-returns-3
 unfolding nidsOut
-returns-4 c h =
-    let u = c .before .before in
-    let e = u .before .before in
+returns-3 c h =
+    let e = c .before .before in
     let a = e .before .before .before .args in
     let ws = now (a .list) in
     let off = sym (e .before .run-out .ensures) ∙ e .if1 .left in
@@ -47,11 +42,11 @@ returns-4 c h =
       nids = done .nids;
       held = i .1;
       inside = i .2;
-      formed = sym (u .before .unformed .ensures) ∙ u .if2 .left;
-      room = omega (arith, leb-true (53 * a .count) (a .end - c .before .survey .result) h, done .room, c .if3 .left);
+      formed = rw (le-ltb _ _ (i .1)) (by-records ws (a .lines) (i .1) (a .host) (a .ours) ∙ done .formed);
+      room = omega (arith, leb-true (53 * a .count) (a .end - c .before .survey .result) h, done .room, c .if2 .left);
     }
 
 pub roomy-spec : {M : Type 1} → statement M
 roomy-spec =
     tie.close
-    (tie.spec (λ c κs. search needs) returns (λ c κs. search needs) returns-2 survey-requires returns-3 mul-result (λ c. search needs) returns-4)
+    (tie.spec (λ c κs. search needs) returns survey-requires returns-2 mul-result (λ c. search needs) returns-3)

@@ -1,27 +1,32 @@
--- The lines before this one have identifiers in bounds, and there is room for their names. Assumes nothing.
+-- The lines before this one have neither 9 nor 11, and there is room for their names. Assumes nothing.
 use Prim.Native.Nat.{_-_, _^_, _<_, _≤_}
-use mathlib.Core.Path.{_≡_, refl}
+use mathlib.Core.Path.{_≡_, refl, sym, _∙_}
+use mathlib.Core.Bool.{false}
 use denote.Ref.{now}
 use native.Mathlib.Omega.{arith}
 use borrow.Author.Tests.{le-ltb}
 use Rattle.list_check.specs.Lines.{some}
+use Rattle.list_check.specs.Formed.{opUnformed}
+use Rattle.list_check.specs.Operand.{noValueAt}
 use Rattle.list_check.proofs.Some.{some-on}
+use Rattle.list_check.proofs.Scan.{reached, scanned}
 use Rattle.line_text.proofs.Listed.{nid-inside}
-use Rattle.print.specs.Room.{rooms, Surveyed}
+use Rattle.print.specs.Printing.{nidOut}
+use Rattle.print.specs.Room.{said, rooms, Surveyed}
 use Rattle.print.proofs.Rooms.{rooms-suc}
 use borrow.Author.Needs.{needs}
 use Rattle.print.proofs.survey.Statement.{statement}
 use Rattle.print.proofs.survey.Tie as tie
 
 abbrev Inv-loop : tie.InvT-loop
-Inv-loop list lines names₀ i₀ names i = (i ≤ lines) × (names < 2 ^ 64 - 1 → Surveyed list lines i names)
+Inv-loop list lines host ours names₀ i₀ names i = (i ≤ lines) × (some i (nidOut list lines) ≡ false) × (some i (λ p. opUnformed host ours (noValueAt list p) (said list p)) ≡ false) × (names < 2 ^ 64 - 1 → rooms list i ≤ names)
 
 abbrev μ-loop : tie.MeasureT-loop
-μ-loop list lines names₀ i₀ names i = lines - i
+μ-loop list lines host ours names₀ i₀ names i = lines - i
 
 loop-holds : tie.Need-loop-holds Inv-loop μ-loop
 unfolding some rooms
-loop-holds c = (omega arith, λ h. record { nids = refl; room = omega arith })
+loop-holds c = (omega arith, refl, refl, λ h. omega arith)
 
 mul-at : tie.Need-mul-at Inv-loop μ-loop
 mul-at c = search needs
@@ -35,6 +40,9 @@ shared-slice-read-if1 c = search needs
 returns : tie.Need-returns Inv-loop μ-loop
 returns c h = absurd (omega arith)
 
+returns-2 : tie.Need-returns-2 Inv-loop μ-loop
+returns-2 c h = absurd (omega arith)
+
 name-room-requires : tie.Need-name-room-requires Inv-loop μ-loop
 name-room-requires c κs = search needs
 
@@ -46,26 +54,30 @@ loop-less c = search needs
 
 loop-again : tie.Need-loop-again Inv-loop μ-loop
 loop-again c =
-    let e = c .before in
+    let f = c .before in
+    let e = f .before .before in
     let l = e .before .before .before in
-    let a = l .before .before .args in (
+    let a = l .before .before .args in
+    let ws = now (a .list) in
+    let inv = l .loop .inv in
+    let told = scanned ws (l .loop .i) (a .host) (a .ours) (reached ws (l .loop .i) (a .host) (a .ours) (omega arith) (inv .2)) in
+    (
       omega arith,
-      λ h.
-          let fits = c .name-room .ensures h in
-          let done = l .loop .inv .1 (omega arith) in
-          record {
-            nids = some-on (l .loop .i) _ (done .nids) (rw (← nid-inside (now (a .list)) (a .lines) (l .loop .i) (omega arith) (omega arith)) (le-ltb _ _ (e .if1 .left)));
-            room = omega (arith, rooms-suc (now (a .list)) (l .loop .i), done .room);
-          },
+      some-on (l .loop .i) _ (inv .1) (rw (← nid-inside ws (a .lines) (l .loop .i) (omega arith) (omega arith)) (le-ltb _ _ (e .if1 .left))),
+      some-on (l .loop .i) _ (inv .2) (sym told ∙ sym (f .before .line-unformed .ensures) ∙ f .if2 .left),
+      λ h. let fits = c .name-room .ensures h in omega (arith, rooms-suc ws (l .loop .i), inv .3 (omega arith)),
     )
 
-returns-2 : tie.Need-returns-2 Inv-loop μ-loop
-returns-2 c h =
+returns-3 : tie.Need-returns-3 Inv-loop μ-loop
+returns-3 c h =
     let l = c .before in
     let a = l .before .before .args in
-    let all : l .loop .i ≡ a .lines = omega arith in rw all at (l .loop .inv .1 h)
+    let all : l .loop .i ≡ a .lines = omega arith in
+    let inv = l .loop .inv in
+    let done : Surveyed (now (a .list)) (a .lines) (a .host) (a .ours) (l .loop .i) (l .loop .names) = record { nids = inv .1; formed = inv .2; room = inv .3 h } in
+    rw all at done
 
 pub survey-spec : {M : Type 1} → statement M
 survey-spec =
     tie.close
-    (tie.spec Inv-loop μ-loop loop-holds mul-at mul-if1 shared-slice-read-if1 returns name-room-requires add-i loop-less loop-again returns-2)
+    (tie.spec Inv-loop μ-loop loop-holds mul-at mul-if1 shared-slice-read-if1 returns (λ c κs. search needs) returns-2 name-room-requires add-i loop-less loop-again returns-3)
