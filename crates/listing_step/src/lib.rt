@@ -2,7 +2,6 @@
 use btor2::NodeRef;
 use listing_line::Parsed;
 use listing_line::parse;
-use lowering::Lowered;
 use lowering_refusals::Counts;
 use lowering_refusals::State;
 use lowering_state::lower;
