@@ -60,8 +60,7 @@ loop-again c =
     let a = l .before .before .args in
     let ws = now (a .list) in
     let inv = l .loop .inv in
-    let told = scanned ws (l .loop .i) (a .host) (a .ours) (reached ws (l .loop .i) (a .host) (a .ours) (omega arith) (inv .2)) in
-    (
+    let told = scanned ws (l .loop .i) (a .host) (a .ours) (reached ws (l .loop .i) (a .host) (a .ours) (omega arith) (inv .2)) in (
       omega arith,
       some-on (l .loop .i) _ (inv .1) (rw (← nid-inside ws (a .lines) (l .loop .i) (omega arith) (omega arith)) (le-ltb _ _ (e .if1 .left))),
       some-on (l .loop .i) _ (inv .2) (sym told ∙ sym (f .before .line-unformed .ensures) ∙ f .if2 .left),
