@@ -1,7 +1,9 @@
--- Many calls in one, of which all are accepted, leave what demand 3's `run` leaves, each call being lent what the one before it left. So what
--- demand 3 says of a list of calls, it says of `lower_all`'s.
+-- Many calls in one leave what demand 3's `run` leaves, each call being lent what the one before it left, up to and with the first that is
+-- refused. So what demand 3 says of a list of calls, it says of `lower_all`'s.
 use mathlib.Core.Path.{_≡_}
+use mathlib.Core.Bool.{true, false}
 use mathlib.Core.List.{List, [], _∷_}
+use lib.Dec.{eqb}
 use Rattle.lowering_refusals.specs.declared.State.{State}
 use Rattle.lowering.specs.Lowering.{Lent, lowering}
 use Rattle.lowering_all.specs.All as Many
@@ -29,8 +31,12 @@ request l st c = record {
 unfoldable pub requests : Lent → State → List Many.Call → List Call
 requests l st [] = []
 requests l st (c ∷ cs) =
-    let a = lowering l st (c .instruction) (c .address) (c .flag) in lower (request l st c) ∷ requests (a .lent) (a .lowered .state) cs
+    let a = lowering l st (c .instruction) (c .address) (c .flag) in
+    lower (request l st c) ∷ elim (eqb (a .lowered .refusal) 0) [
+      | true ↦ requests (a .lent) (a .lowered .state) cs
+      | false ↦ []
+    ]
 
 abbrev pub ManyAreRun : Type 0
-ManyAreRun = (l : Lent) (st : State) (cs : List Many.Call) → loweringOn 0 l st cs .refusal ≡ 0
+ManyAreRun = (l : Lent) (st : State) (cs : List Many.Call)
     → run (held l st) (requests l st cs) ≡ held (loweringOn 0 l st cs .lent) (loweringOn 0 l st cs .state)

@@ -5,8 +5,10 @@ use native.Mathlib.Decide.{decLe}
 use native.Mathlib.Omega.{arith}
 use mathlib.Core.Path.{_≡_, sym, ap, _∙_}
 use mathlib.Core.List.{List, [], _∷_, _++_, append-assoc}
+use lib.ListN.{length}
 use borrow.Author.Tests.{lt-ltb, le-ltb}
 use Rattle.text.specs.Numeral.{glyph, numeral, decimalText}
+use Rattle.text.proofs.Laws.{numeral-length}
 use Rattle.digits.specs.Pairs.{two, four, eight}
 use Rattle.decimal.proofs.Length.{ten-to}
 
@@ -57,3 +59,6 @@ before-eight x h l =
     let b : x / 10000 % 10000 ≡ x % 100000000 / 10000 = omega arith in
     let d : x % 10000 ≡ x % 100000000 % 10000 = omega arith in
     sym (four-more 16 x (omega arith) ∙ rw (four-more 12 (x / 10000) (omega arith), a, b, d, wider 11 8 (x / 100000000) (omega arith)) (append-assoc (decimalText (x / 100000000)) _ _))
+
+pub at-most-eight : (x : ℕ) → x < 100000000 → length (decimalText x) ≤ 8
+at-most-eight x h = rw (← wider 7 12 x h) (numeral-length 10 8 x)

@@ -65,7 +65,7 @@ fn put_twelve(out: &mut [u8], at: usize, x: u64) -> usize
     ensures { λ r. ⌜ Put (now (out .entry)) at (decimalText x) (now (out .exit)) r × (r ≤ at + 12) ⌝ }
 {
     if x < 100000000 {
-        return put_eight(out, at, x as u32);
+        return decimal::put_decimal(out, at, x);
     }
     let first = x / 100000000;
     let last = x % 100000000;

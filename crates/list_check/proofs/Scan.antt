@@ -100,8 +100,11 @@ short ws i r q =
     rw (lt-ltb q i h, lt-leb i q h, lt-ltb _ _ there) (sym (seen-value (l .nid .0) (carried (opOf l)) ∙ by-kind l (r .known q h))))
 
 -- and its test of the line is the record's
+pub recorded : (ws : List ℕ) (i host ours : ℕ) → Reached ws i → opUnformed host ours (outBefore ws i) (said ws i) ≡ recordUnformed host ours ws i
+recorded ws i host ours r = ap (λ (out : ℕ → Bool). opUnformed host ours out (said ws i)) (fun-ext (short ws i r))
+
 pub scanned : (ws : List ℕ) (i host ours : ℕ) → Reached ws i → scanUnformed ws i host ours ≡ recordUnformed host ours ws i
-scanned ws i host ours r = rw (lt-ltb _ _ (r .held)) (ap (λ (out : ℕ → Bool). opUnformed host ours out (said ws i)) (fun-ext (short ws i r)))
+scanned ws i host ours r = rw (lt-ltb _ _ (r .held)) (recorded ws i host ours r)
 
 -- a scan that has found the lines before a line well formed has reached it
 pub reached : (ws : List ℕ) (i host ours : ℕ) → i < length ws / stride → some i (recordUnformed host ours ws) ≡ false → Reached ws i

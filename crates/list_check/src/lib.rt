@@ -60,7 +60,7 @@ pub fn unformed(list: &[u64], lines: usize, host: usize, ours: usize) -> bool
     }
     let mut i = 0;
     while i < lines {
-        if line_unformed(list, i, host, ours) {
+        if record_unformed(list, i, host, ours) {
             return true;
         }
         i += 1;

@@ -1,14 +1,16 @@
 -- The digits before the last eight, and these. Assumes nothing.
 use native.Mathlib.Omega.{arith}
 use Rattle.text.proofs.Laws.{then, put-as}
-use Rattle.digits.proofs.Split.{before-eight}
+use Rattle.digits.proofs.Split.{before-eight, at-most-eight}
 use borrow.Author.Needs.{needs}
 use Rattle.digits.proofs.put_twelve.Statement.{statement}
 use Rattle.digits.proofs.put_twelve.Tie as tie
 
 returns : tie.Need-returns
 returns c =
-    let p = c .before .before in (p .put-eight .ensures .0, omega (arith, p .put-eight .ensures .1))
+    let p = c .before .before in
+    let e = p .before .before in
+    let x = e .before .before .args .x in (p .put-decimal .ensures, omega (arith, p .put-decimal .ensures .next, at-most-eight x (e .if1 .taken)))
 
 returns-2 : tie.Need-returns-2
 returns-2 c =
@@ -21,4 +23,4 @@ returns-2 c =
 pub put-twelve-spec : {M : Type 1} → statement M
 put-twelve-spec =
     tie.close
-    (tie.spec (λ c. search needs) (λ c κs. search needs) (λ c. search needs) returns (λ c. search needs) (λ c κs. search needs) (λ c. search needs) (λ c κs. search needs) (λ c. search needs) returns-2)
+    (tie.spec (λ c κs. search needs) (λ c. search needs) returns (λ c. search needs) (λ c κs. search needs) (λ c. search needs) (λ c κs. search needs) (λ c. search needs) returns-2)
