@@ -7,6 +7,7 @@ use lib.Dec.{eqb}
 use Rattle.btor2.specs.declared.Name.{Name}
 use Rattle.btor2.specs.Sort.{sortNumber, width}
 use Rattle.btor2.specs.Op.{Bin, add, sub, mul, udiv, sdiv, urem, sll, srl, ult, Op, const, read, write, bin, uext, ite, eq, and, or, not, state, stateInit, next, input, bad, unknown, binSort}
+use Rattle.btor2_list.specs.declared.Line.{Line}
 use Rattle.btor2_name.specs.NameBytes.{nameBytes}
 use Rattle.word_text.specs.Words.{ascii}
 use Rattle.node_text.specs.Row.{written}
@@ -54,3 +55,16 @@ lineText names nid unknown = []
 -- "A missing name prints `?`"; another one is printed as the very bytes of its area
 unfoldable pub printedName : List ℕ → List ℕ → Name → List ℕ
 printedName host ours name = cond (eqb (name .area) 1 || eqb (name .area) 2) (nameBytes host ours name) (ascii "?")
+
+-- a record whose operands are the identifiers a, b and c
+abbrev pub withOperands : Line → ℕ → ℕ → ℕ → Line
+withOperands l a b c = record {
+  nid = l .nid;
+  kind = l .kind;
+  sort = l .sort;
+  op1 = record { 0 = a };
+  op2 = record { 0 = b };
+  op3 = record { 0 = c };
+  imm = l .imm;
+  name = l .name;
+}

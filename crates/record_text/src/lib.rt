@@ -33,19 +33,19 @@ use node_text::put_two;
 ghost use mathlib.Core.Path.{_≡_};
 ghost use mathlib.Core.Bool.{cond, true, false};
 ghost use lib.Dec.{eqb};
-ghost use Prim.Native.Nat.{ℕ, _+_, _-_, _%_, _^_};
+ghost use Prim.Native.Nat.{_+_, _-_, _%_, _^_};
 ghost use Rattle.text.specs.Put.{Put};
 ghost use Rattle.btor2.specs.Sort.{sortNumbered, width};
 ghost use Rattle.btor2.specs.declared.NodeType.{NodeType};
 ghost use Rattle.btor2.specs.declared.MaybeSort.the-variants.{Sort, NoSort};
-ghost use Rattle.btor2.specs.Op.{mapOp, unknown};
+ghost use Rattle.btor2.specs.Op.{unknown};
 ghost use Rattle.btor2_list.specs.declared.Line.{Line};
 ghost use Rattle.btor2_list.specs.Node.{opOf};
 ghost use mathlib.Core.List.{[], _∷_, _++_};
 ghost use Rattle.word_text.specs.Words.{word};
 ghost use Rattle.node_text.specs.Row.{written};
 ghost use Rattle.record_text.specs.OwnSort.{ownSort};
-ghost use Rattle.record_text.specs.Line.{lineText, printedName};
+ghost use Rattle.record_text.specs.Line.{lineText, printedName, withOperands};
 
 // A record whose operands have the identifiers a, b and c; one of unknown kind or sort has no text.
 pub fn put_record<'a>(
@@ -58,7 +58,7 @@ pub fn put_record<'a>(
     host: &'a [u8],
     ours: &'a [u8],
 ) -> usize
-    ensures { λ r. ⌜ ((f : ℕ → ℕ) → f (line .op1 .0) ≡ a .0 → f (line .op2 .0) ≡ b .0 → f (line .op3 .0) ≡ c .0 → Put (now (out .entry)) at (lineText (printedName (now (host .entry)) (now (ours .entry))) (line .nid .0) (mapOp f (opOf line))) (now (out .exit)) r) ⌝ }
+    ensures { λ r. ⌜ Put (now (out .entry)) at (lineText (printedName (now (host .entry)) (now (ours .entry))) (line .nid .0) (opOf (withOperands line (a .0) (b .0) (c .0)))) (now (out .exit)) r ⌝ }
 {
     if unsorted(line.kind, line.sort) {
         return at;
@@ -79,7 +79,7 @@ fn put_known<'a>(
     ours: &'a [u8],
 ) -> usize
     requires { ⌜ (ownSort (line .kind) ≡ true → (s : NodeType) × (sortNumbered (line .sort) ≡ Sort s)) ⌝ }
-    ensures { λ r. ⌜ ((f : ℕ → ℕ) → f (line .op1 .0) ≡ a .0 → f (line .op2 .0) ≡ b .0 → f (line .op3 .0) ≡ c .0 → Put (now (out .entry)) at (lineText (printedName (now (host .entry)) (now (ours .entry))) (line .nid .0) (mapOp f (opOf line))) (now (out .exit)) r) ⌝ }
+    ensures { λ r. ⌜ Put (now (out .entry)) at (lineText (printedName (now (host .entry)) (now (ours .entry))) (line .nid .0) (opOf (withOperands line (a .0) (b .0) (c .0)))) (now (out .exit)) r ⌝ }
 {
     let nid = line.nid.0;
     let kind = line.kind;

@@ -1,6 +1,9 @@
 -- The record by the identifiers of its operands. Assumes nothing.
-use mathlib.Core.Path.{sym}
+use mathlib.Core.Path.{ap}
 use denote.Ref.{now}
+use Rattle.text.proofs.Laws.{put-as}
+use Rattle.record_text.specs.Line.{lineText, printedName}
+use Rattle.record_text.proofs.KnownKinds.{by-identifiers}
 use Rattle.line_text.specs.Line.{nodes, nidAt}
 use borrow.Author.Needs.{needs}
 use Rattle.line_text.proofs.put_found.Statement.{statement}
@@ -11,7 +14,9 @@ returns c =
     let r = c .before .before in
     let n = r .before .before in
     let a = n .before .before .before .before .before .before .before .args in
-    r .put-record .ensures (nidAt (nodes (now (a .list)) (a .lines))) (sym (n .before .before .nid-at .ensures)) (sym (n .before .nid-at2 .ensures)) (sym (n .nid-at3 .ensures))
+    let f = nidAt (nodes (now (a .list)) (a .lines)) in
+    let text = ap (lineText (printedName (now (a .host)) (now (a .ours))) (a .line .nid .0)) (by-identifiers f (a .line)) in
+    put-as (r .put-record .ensures) (rw (n .before .before .nid-at .ensures, n .before .nid-at2 .ensures, n .nid-at3 .ensures) text)
 
 pub put-found-spec : {M : Type 1} → statement M
 put-found-spec =

@@ -3,17 +3,16 @@ use denote.Ref.{now}
 use native.Mathlib.Omega.{arith}
 use Rattle.word_text.proofs.Table.{beyond}
 use Rattle.text.proofs.Laws.{nothing, put-as}
-use Rattle.btor2.specs.Op.{mapOp}
 use Rattle.btor2_list.specs.Node.{opOf}
-use Rattle.record_text.specs.Line.{lineText, printedName}
+use Rattle.record_text.specs.Line.{lineText, printedName, withOperands}
 use Rattle.record_text.proofs.KnownKinds.{no-kind, number-of, state-text}
 use borrow.Author.Needs.{needs}
 use Rattle.record_text.proofs.put_known.Statement.{statement}
 use Rattle.record_text.proofs.put_known.Tie as tie
 
 returns : tie.Need-returns
-unfolding opOf mapOp lineText
-returns c f ea eb ec =
+unfolding opOf lineText
+returns c =
     let q = c .before .before in
     let m = q .before .before in
     let s = m .before .before .before .before in
@@ -21,121 +20,121 @@ returns c f ea eb ec =
     put-as (q .put-two .ensures) (rw (m .match .keys1, sort .1, number-of (sort .0) (s .args .line .sort) (sort .1)))
 
 returns-2 : tie.Need-returns-2
-unfolding opOf mapOp lineText
-returns-2 c f ea eb ec = let q = c .before .before in put-as (q .put-three .ensures) (rw (q .before .before .match .keys2, ← ea, ← eb))
+unfolding opOf lineText
+returns-2 c = let q = c .before .before in put-as (q .put-three .ensures) (rw (q .before .before .match .keys2))
 
 returns-3 : tie.Need-returns-3
-unfolding opOf mapOp lineText
-returns-3 c f ea eb ec = let q = c .before .before in put-as (q .put-four .ensures) (rw (q .before .before .match .keys3, ← ea, ← eb, ← ec))
+unfolding opOf lineText
+returns-3 c = let q = c .before .before in put-as (q .put-four .ensures) (rw (q .before .before .match .keys3))
 
 returns-4 : tie.Need-returns-4
-unfolding opOf mapOp lineText
-returns-4 c f ea eb ec = let q = c .before .before in put-as (q .put-three2 .ensures) (rw (q .before .before .match .keys4, ← ea, ← eb))
+unfolding opOf lineText
+returns-4 c = let q = c .before .before in put-as (q .put-three2 .ensures) (rw (q .before .before .match .keys4))
 
 returns-5 : tie.Need-returns-5
-unfolding opOf mapOp lineText
-returns-5 c f ea eb ec = let q = c .before .before in put-as (q .put-three3 .ensures) (rw (q .before .before .match .keys5, ← ea, ← eb))
+unfolding opOf lineText
+returns-5 c = let q = c .before .before in put-as (q .put-three3 .ensures) (rw (q .before .before .match .keys5))
 
 returns-6 : tie.Need-returns-6
-unfolding opOf mapOp lineText
-returns-6 c f ea eb ec = let q = c .before .before in put-as (q .put-three4 .ensures) (rw (q .before .before .match .keys6, ← ea, ← eb))
+unfolding opOf lineText
+returns-6 c = let q = c .before .before in put-as (q .put-three4 .ensures) (rw (q .before .before .match .keys6))
 
 returns-7 : tie.Need-returns-7
-unfolding opOf mapOp lineText
-returns-7 c f ea eb ec = let q = c .before .before in put-as (q .put-three5 .ensures) (rw (q .before .before .match .keys7, ← ea, ← eb))
+unfolding opOf lineText
+returns-7 c = let q = c .before .before in put-as (q .put-three5 .ensures) (rw (q .before .before .match .keys7))
 
 returns-8 : tie.Need-returns-8
-unfolding opOf mapOp lineText
-returns-8 c f ea eb ec = let q = c .before .before in put-as (q .put-three6 .ensures) (rw (q .before .before .match .keys8, ← ea, ← eb))
+unfolding opOf lineText
+returns-8 c = let q = c .before .before in put-as (q .put-three6 .ensures) (rw (q .before .before .match .keys8))
 
 returns-9 : tie.Need-returns-9
-unfolding opOf mapOp lineText
-returns-9 c f ea eb ec = let q = c .before .before in put-as (q .put-three7 .ensures) (rw (q .before .before .match .keys9, ← ea, ← eb))
+unfolding opOf lineText
+returns-9 c = let q = c .before .before in put-as (q .put-three7 .ensures) (rw (q .before .before .match .keys9))
 
 returns-10 : tie.Need-returns-10
-unfolding opOf mapOp lineText
-returns-10 c f ea eb ec = let q = c .before .before in put-as (q .put-three8 .ensures) (rw (q .before .before .match .keys10, ← ea, ← eb))
+unfolding opOf lineText
+returns-10 c = let q = c .before .before in put-as (q .put-three8 .ensures) (rw (q .before .before .match .keys10))
 
 returns-11 : tie.Need-returns-11
-unfolding opOf mapOp lineText
-returns-11 c f ea eb ec = let q = c .before .before in put-as (q .put-three9 .ensures) (rw (q .before .before .match .keys11, ← ea, ← eb))
+unfolding opOf lineText
+returns-11 c = let q = c .before .before in put-as (q .put-three9 .ensures) (rw (q .before .before .match .keys11))
 
 returns-12 : tie.Need-returns-12
-unfolding opOf mapOp lineText
-returns-12 c f ea eb ec = let q = c .before .before in put-as (q .put-three10 .ensures) (rw (q .before .before .match .keys12, ← ea, ← eb))
+unfolding opOf lineText
+returns-12 c = let q = c .before .before in put-as (q .put-three10 .ensures) (rw (q .before .before .match .keys12))
 
 returns-13 : tie.Need-returns-13
-unfolding opOf mapOp lineText
-returns-13 c f ea eb ec =
+unfolding opOf lineText
+returns-13 c =
     let q = c .before .before in
     let p = q .before in
     let m = p .before .before in
     let s = m .before .before .before .before in
     let sort = s .pre (rw (m .match .keys13)) in
-    put-as (q .put-three11 .ensures) (rw (m .match .keys13, sort .1, p .padding .ensures (sort .0) (sort .1), ← ea))
+    put-as (q .put-three11 .ensures) (rw (m .match .keys13, sort .1, p .padding .ensures (sort .0) (sort .1)))
 
 returns-14 : tie.Need-returns-14
-unfolding opOf mapOp lineText
-returns-14 c f ea eb ec =
+unfolding opOf lineText
+returns-14 c =
     let q = c .before .before in
     let m = q .before .before in
     let s = m .before .before .before .before in
     let sort = s .pre (rw (m .match .keys14)) in
-    put-as (q .put-four2 .ensures) (rw (m .match .keys14, sort .1, number-of (sort .0) (s .args .line .sort) (sort .1), ← ea, ← eb, ← ec))
+    put-as (q .put-four2 .ensures) (rw (m .match .keys14, sort .1, number-of (sort .0) (s .args .line .sort) (sort .1)))
 
 returns-15 : tie.Need-returns-15
-unfolding opOf mapOp lineText
-returns-15 c f ea eb ec = let q = c .before .before in put-as (q .put-three12 .ensures) (rw (q .before .before .match .keys15, ← ea, ← eb))
+unfolding opOf lineText
+returns-15 c = let q = c .before .before in put-as (q .put-three12 .ensures) (rw (q .before .before .match .keys15))
 
 returns-16 : tie.Need-returns-16
-unfolding opOf mapOp lineText
-returns-16 c f ea eb ec =
+unfolding opOf lineText
+returns-16 c =
     let q = c .before .before in
     let m = q .before .before in
     let s = m .before .before .before .before in
     let sort = s .pre (rw (m .match .keys16)) in
-    put-as (q .put-three13 .ensures) (rw (m .match .keys16, sort .1, number-of (sort .0) (s .args .line .sort) (sort .1), ← ea, ← eb))
+    put-as (q .put-three13 .ensures) (rw (m .match .keys16, sort .1, number-of (sort .0) (s .args .line .sort) (sort .1)))
 
 returns-17 : tie.Need-returns-17
-unfolding opOf mapOp lineText
-returns-17 c f ea eb ec =
+unfolding opOf lineText
+returns-17 c =
     let q = c .before .before in
     let m = q .before .before in
     let s = m .before .before .before .before in
     let sort = s .pre (rw (m .match .keys17)) in
-    put-as (q .put-three14 .ensures) (rw (m .match .keys17, sort .1, number-of (sort .0) (s .args .line .sort) (sort .1), ← ea, ← eb))
+    put-as (q .put-three14 .ensures) (rw (m .match .keys17, sort .1, number-of (sort .0) (s .args .line .sort) (sort .1)))
 
 returns-18 : tie.Need-returns-18
-unfolding opOf mapOp lineText
-returns-18 c f ea eb ec =
+unfolding opOf lineText
+returns-18 c =
     let q = c .before .before in
     let m = q .before .before in
     let s = m .before .before .before .before in
     let sort = s .pre (rw (m .match .keys18)) in
-    put-as (q .put-two2 .ensures) (rw (m .match .keys18, sort .1, number-of (sort .0) (s .args .line .sort) (sort .1), ← ea))
+    put-as (q .put-two2 .ensures) (rw (m .match .keys18, sort .1, number-of (sort .0) (s .args .line .sort) (sort .1)))
 
 returns-19 : tie.Need-returns-19
-returns-19 c f ea eb ec =
+returns-19 c =
     let q = c .before .before in
     let m = q .before .before in
     let s = m .before .before .before .before in
     let a = s .args in
     let sort = s .pre (rw (m .match .keys19)) in
-    let text = state-text (printedName (now (a .host)) (now (a .ours))) f (a .line) (sort .0) (m .match .keys19) (sort .1) in
-    put-as (q .put-state .ensures) (rw (← ea) text)
+    let text = state-text (printedName (now (a .host)) (now (a .ours))) (a .line) (a .a .0) (a .b .0) (a .c .0) (sort .0) (m .match .keys19) (sort .1) in
+    put-as (q .put-state .ensures) text
 
 returns-20 : tie.Need-returns-20
-unfolding opOf mapOp lineText
-returns-20 c f ea eb ec =
+unfolding opOf lineText
+returns-20 c =
     let q = c .before .before in
     let m = q .before .before in
     let s = m .before .before .before .before in
     let sort = s .pre (rw (m .match .keys20)) in
-    put-as (q .put-three15 .ensures) (rw (m .match .keys20, sort .1, number-of (sort .0) (s .args .line .sort) (sort .1), ← ea, ← eb))
+    put-as (q .put-three15 .ensures) (rw (m .match .keys20, sort .1, number-of (sort .0) (s .args .line .sort) (sort .1)))
 
 returns-21 : tie.Need-returns-21
-unfolding opOf mapOp lineText
-returns-21 c f ea eb ec =
+unfolding opOf lineText
+returns-21 c =
     let q = c .before .before in
     let m = q .before .before in
     let s = m .before .before .before .before in
@@ -143,14 +142,15 @@ returns-21 c f ea eb ec =
     put-as (q .put-name .ensures) (rw (m .match .keys21, sort .1, number-of (sort .0) (s .args .line .sort) (sort .1)))
 
 returns-22 : tie.Need-returns-22
-unfolding opOf mapOp lineText
-returns-22 c f ea eb ec = let q = c .before .before in put-as (q .put-name2 .ensures) (rw (q .before .before .match .keys22, ← ea))
+unfolding opOf lineText
+returns-22 c = let q = c .before .before in put-as (q .put-name2 .ensures) (rw (q .before .before .match .keys22))
 
 returns-23 : tie.Need-returns-23
-unfolding mapOp lineText
-returns-23 c f ea eb ec =
+unfolding lineText
+returns-23 c =
     let r = c .match .rest in
-    nothing (omega arith) (rw (no-kind (c .before .before .before .before .args .line)
+    let a = c .before .before .before .before .args in
+    nothing (omega arith) (rw (no-kind (withOperands (a .line) (a .a .0) (a .b .0) (a .c .0))
     (λ h. beyond (beyond (beyond (beyond (beyond (beyond (beyond (beyond (beyond (beyond (beyond (beyond (beyond (beyond (beyond (beyond (beyond (beyond (beyond (beyond (beyond (beyond h (r .0 .0 .0 .0 .0 .0 .0 .0 .0 .0 .0 .0 .0 .0 .0 .0 .0 .0 .0 .0 .0 .1)) (r .0 .0 .0 .0 .0 .0 .0 .0 .0 .0 .0 .0 .0 .0 .0 .0 .0 .0 .0 .0 .1)) (r .0 .0 .0 .0 .0 .0 .0 .0 .0 .0 .0 .0 .0 .0 .0 .0 .0 .0 .0 .1)) (r .0 .0 .0 .0 .0 .0 .0 .0 .0 .0 .0 .0 .0 .0 .0 .0 .0 .0 .1)) (r .0 .0 .0 .0 .0 .0 .0 .0 .0 .0 .0 .0 .0 .0 .0 .0 .0 .1)) (r .0 .0 .0 .0 .0 .0 .0 .0 .0 .0 .0 .0 .0 .0 .0 .0 .1)) (r .0 .0 .0 .0 .0 .0 .0 .0 .0 .0 .0 .0 .0 .0 .0 .1)) (r .0 .0 .0 .0 .0 .0 .0 .0 .0 .0 .0 .0 .0 .0 .1)) (r .0 .0 .0 .0 .0 .0 .0 .0 .0 .0 .0 .0 .0 .1)) (r .0 .0 .0 .0 .0 .0 .0 .0 .0 .0 .0 .0 .1)) (r .0 .0 .0 .0 .0 .0 .0 .0 .0 .0 .0 .1)) (r .0 .0 .0 .0 .0 .0 .0 .0 .0 .0 .1)) (r .0 .0 .0 .0 .0 .0 .0 .0 .0 .1)) (r .0 .0 .0 .0 .0 .0 .0 .0 .1)) (r .0 .0 .0 .0 .0 .0 .0 .1)) (r .0 .0 .0 .0 .0 .0 .1)) (r .0 .0 .0 .0 .0 .1)) (r .0 .0 .0 .0 .1)) (r .0 .0 .0 .1)) (r .0 .0 .1)) (r .0 .1)) (r .1))))
 
 pub put-known-spec : {M : Type 1} → statement M
