@@ -35,7 +35,7 @@ op-at ws n p h = List·getD-map (λ (x : Node). x .op) (view ws n) p (node 0 unk
 pub ops-length : (ws : List ℕ) (n : ℕ) → length (ops (view ws n)) ≡ n
 ops-length ws n = length-map (view ws n) (λ (x : Node). x .op) ∙ view-length ws n
 
-neither : (a b : Bool) → (a || b) ≡ false → (a ≡ false) × (b ≡ false)
+pub neither : (a b : Bool) → (a || b) ≡ false → (a ≡ false) × (b ≡ false)
 neither true b e = absurd (true≢false e)
 neither false b e = (refl, e)
 

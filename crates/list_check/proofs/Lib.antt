@@ -3,3 +3,4 @@ pub mod Found
 pub mod Formed
 pub mod Scan
 pub mod ByKind
+pub mod Plain
