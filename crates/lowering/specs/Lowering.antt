@@ -110,11 +110,14 @@ roomIn l = roomOf (length (l .list)) (length (l .names)) (length (l .edges)) (le
 abbrev pub refused : ℕ → Lent → State → Answer
 refused n l st = record { lowered = record { refusal = n; state = st }; lent = l }
 
--- one call: the instruction i at the address pc under a flag; whether the roles fit is given
-unfoldable pub loweringGiven : Bool → Lent → State → Instruction → ℕ → NodeRef → Answer
-loweringGiven fits l st i pc flag =
+-- one call: the instruction i at the address pc under a flag, its lines those of a program; whether the roles fit is given
+abbrev pub loweringBy : Bool → Lent → State → Instruction → ℕ → NodeRef → Prog ℕ (P.Modeled ℕ) → Answer
+loweringBy fits l st i pc flag program =
     let n = refusalGiven fits (l .list) (roomIn l) (st .tally) (st .counts) i pc (flag .0) in
-    cond (eqb n 0) (settled l st i pc (exec append (at (l .list) (st .tally)) (programOf st i pc flag))) (refused n l st)
+    cond (eqb n 0) (settled l st i pc (exec append (at (l .list) (st .tally)) program)) (refused n l st)
+
+unfoldable pub loweringGiven : Bool → Lent → State → Instruction → ℕ → NodeRef → Answer
+loweringGiven fits l st i pc flag = loweringBy fits l st i pc flag (programOf st i pc flag)
 
 -- and is tested
 abbrev pub lowering : Lent → State → Instruction → ℕ → NodeRef → Answer

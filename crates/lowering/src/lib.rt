@@ -22,8 +22,9 @@ ghost use mathlib.Core.List.{List};
 ghost use Rattle.builder.specs.Append.{at, append};
 ghost use Rattle.program.specs.Prog.{exec};
 ghost use Rattle.lowering_lines.specs.Lines.{programFrom};
-ghost use Rattle.lowering.specs.Lowering.{lent, answer, aside, indirectAside, asideAfter, countsAfter, settled, loweringGiven};
-ghost use Rattle.lowering.specs.Parts.{readsIn, stateOf, joined};
+ghost use Rattle.lowering.specs.Lowering.{lent, answer, aside, indirectAside, asideAfter, countsAfter, settled, loweringBy};
+ghost use Rattle.lowering.specs.Parts.{stateOf, joined};
+ghost use Rattle.models.specs.declared.Outcome.the-variants.{Nothing};
 ghost use Rattle.lowering.specs.Sums.{Added, Sums};
 
 // What a call gives: its refusal, 0 where there is none, and the state after it.
@@ -41,7 +42,8 @@ pub struct Parts {
     pub outcome: Outcome,
 }
 
-// A call apart from the roles.
+// A call apart from the roles, by what is read of them: whatever the roles are, what is given is joined to them. Where it is refused the flows are
+// those that were read.
 pub fn lower_parts(
     list: &mut [u64],
     names: &mut [u8],
@@ -56,7 +58,8 @@ pub fn lower_parts(
     flag: NodeRef,
     fits: bool,
 ) -> Parts
-    ensures { λ r. ⌜ ((roles : List NodeRef) → e ≡ readsIn roles flag i → answer (joined roles (i .rd) r) (lent (now (list .exit)) (now (names .exit)) (now (edges .exit)) (now (dispatches .exit)) (now (bads .exit))) ≡ loweringGiven fits (lent (now (list .entry)) (now (names .entry)) (now (edges .entry)) (now (dispatches .entry)) (now (bads .entry))) (stateOf t c roles) i address flag) ⌝ }
+    ensures given { λ r. ⌜ ((roles : List NodeRef) → answer (joined roles (i .rd) r) (lent (now (list .exit)) (now (names .exit)) (now (edges .exit)) (now (dispatches .exit)) (now (bads .exit))) ≡ loweringBy fits (lent (now (list .entry)) (now (names .entry)) (now (edges .entry)) (now (dispatches .entry)) (now (bads .entry))) (stateOf t c roles) i address flag (programFrom e (c .names) i address)) ⌝ }
+    ensures refused { λ r. ⌜ ((r .refusal ≡ 0 → ⊥) → (r .flows ≡ e .flows) × (r .outcome ≡ Nothing)) ⌝ }
 {
     let room = room_of(
         list.len(),

@@ -1,24 +1,20 @@
 -- Refused, all is as it was; else what an accepted call gives. Assumes nothing.
-use mathlib.Core.Path.{sym, ap, _∙_}
+use mathlib.Core.Path.{refl, sym, _∙_}
+use mathlib.Core.List.{[]}
 use denote.Ref.{now}
 use lib.ListN.{length}
 use borrow.Author.Needs.{needs}
 use borrow.Author.Tests.{eq-eqb, ne-eqb}
-use Rattle.program.specs.Prog.{exec}
-use Rattle.builder.specs.Append.{at, append}
-use Rattle.lowering.specs.Lowering.{lent, settled, loweringGiven}
-use Rattle.lowering.specs.Parts.{stateOf}
 use Rattle.lowering.proofs.Accepted.{sums-of}
-use Rattle.lowering.proofs.Whole.{program-read}
+use Rattle.lowering.proofs.Whole.{no-refusal}
 use Rattle.lowering.proofs.lower_parts.Statement.{statement}
 use Rattle.lowering.proofs.lower_parts.Tie as tie
 
 returns : tie.Need-returns
-unfolding loweringGiven
-returns c roles e =
+returns c =
     let r = c .before .before in
     let room = r .before .before in
-    rw (← room .room-of .ensures, ← r .refuse-given .ensures, ne-eqb _ 0 (c .before .if1 .taken))
+    (λ roles. rw (← room .room-of .ensures, ← r .refuse-given .ensures, ne-eqb _ 0 (c .before .if1 .taken)), λ h. (refl, refl))
 
 accept-requires : tie.Need-accept-requires
 accept-requires c κs =
@@ -33,17 +29,12 @@ accept-requires c κs =
     (room .room-of .ensures) (good .0 .0) (good .1 .0 .0) (good .1 .1 .0 .0) (good .1 .1 .1 .0 .0)
 
 returns-2 : tie.Need-returns-2
-unfolding loweringGiven
-returns-2 c roles h =
+returns-2 c =
     let call = c .before .before .before .before .before .before .before .before .before .before in
     let e = call .before .before .before .before .before .before in
     let r = e .before in
     let room = r .before .before in
-    let a = room .before .before .before .before .before .before .args in
-    rw (← room .room-of .ensures, ← r .refuse-given .ensures, eq-eqb _ 0 (e .if1 .left))
-    (call .accept .ensures roles
-    ∙ ap (λ q. settled (lent (now (a .list)) (now (a .names)) (now (a .edges)) (now (a .dispatches)) (now (a .bads))) (stateOf (a .t) (a .c) roles) (a .i) (a .address) (exec append (at (now (a .list)) (a .t)) q))
-    (program-read roles (a .t) (a .c) (a .flag) (a .e) (a .i) (a .address) h))
+    (λ roles. rw (← room .room-of .ensures, ← r .refuse-given .ensures, eq-eqb _ 0 (e .if1 .left)) (call .accept .ensures roles), λ h. absurd (h (no-refusal _ _ _ _ _ (call .accept .ensures []))))
 
 pub lower-parts-spec : {M : Type 1} → statement M
 lower-parts-spec =

@@ -4,6 +4,7 @@ use denote.Ref.{now}
 use borrow.Author.Needs.{needs}
 use borrow.Author.Tests.{lt-ltb}
 use Rattle.lowering.specs.Lowering.{lent}
+use Rattle.lowering.proofs.Whole.{read-given}
 use Rattle.lowering_words.specs.Words.{rolesIn, given, loweringWords}
 use Rattle.lowering_words.proofs.Words.{not-written, written}
 use Rattle.lowering_words.proofs.lower_words.Statement.{statement}
@@ -21,10 +22,13 @@ returns-2 c =
     let tally = counts .before .before in
     let enough = tally .before .before in
     let a = enough .before .before .before .before .before .before .before .args in
+    let roles = rolesIn (now (a .state)) in
+    let lower = read-given (a .fits) (lent (now (a .list)) (now (a .names)) (now (a .edges)) (now (a .dispatches)) (now (a .bads))) roles (tally .tally-in .result) (counts .counts-in .result) (a .flag) (reads .reads-in .result) (a .i) (a .address) (reads .reads-in .ensures) in
+    let joined = call .lower-parts .ensures .0 roles ∙ lower in
     not-written (a .fits) (lent (now (a .list)) (now (a .names)) (now (a .edges)) (now (a .dispatches)) (now (a .bads)))
     (lent (call .lower-parts .last .0) (call .lower-parts .last .1 .0) (call .lower-parts .last .1 .1 .0) (call .lower-parts .last .1 .1 .1 .0) (call .lower-parts .last .1 .1 .1 .1 .0))
     (now (a .state)) (a .i) (a .address) (a .flag) (tally .tally-in .result) (counts .counts-in .result) (call .lower-parts .result) (enough .if1 .left) (tally .tally-in .ensures) (counts .counts-in .ensures)
-    (call .lower-parts .ensures (rolesIn (now (a .state))) (reads .reads-in .ensures)) (c .if2 .taken)
+    joined (c .if2 .taken)
 
 put-parts-requires : tie.Need-put-parts-requires
 put-parts-requires c κs = c .before .before .before .before .before .before .before .before .before .before .before .before .before .before .before .before .before .before .before .before .before .before .before .before .if1 .left
@@ -39,11 +43,14 @@ returns-3 c =
     let tally = counts .before .before in
     let enough = tally .before .before in
     let a = enough .before .before .before .before .before .before .before .args in
+    let roles = rolesIn (now (a .state)) in
+    let lower = read-given (a .fits) (lent (now (a .list)) (now (a .names)) (now (a .edges)) (now (a .dispatches)) (now (a .bads))) roles (tally .tally-in .result) (counts .counts-in .result) (a .flag) (reads .reads-in .result) (a .i) (a .address) (reads .reads-in .ensures) in
+    let joined = call .lower-parts .ensures .0 roles ∙ lower in
     let there = lent (call .lower-parts .last .0) (call .lower-parts .last .1 .0) (call .lower-parts .last .1 .1 .0) (call .lower-parts .last .1 .1 .1 .0) (call .lower-parts .last .1 .1 .1 .1 .0) in
     ap (given 0 there) (put .put-parts .ensures)
     ∙ written (a .fits) (lent (now (a .list)) (now (a .names)) (now (a .edges)) (now (a .dispatches)) (now (a .bads))) there
     (now (a .state)) (a .i) (a .address) (a .flag) (tally .tally-in .result) (counts .counts-in .result) (call .lower-parts .result) (enough .if1 .left) (tally .tally-in .ensures) (counts .counts-in .ensures)
-    (call .lower-parts .ensures (rolesIn (now (a .state))) (reads .reads-in .ensures)) (accepted .if2 .left)
+    joined (accepted .if2 .left)
 
 pub lower-words-spec : {M : Type 1} → statement M
 lower-words-spec =
