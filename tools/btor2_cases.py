@@ -13,6 +13,7 @@ KINDS = (
 )
 SORTS = (1, 2, 3, *range(11, 18))
 WORD_RESULT = {"Read", "Add", "Sub", "Mul", "Divu", "Div", "Rem", "Sll", "Srl"}
+NAMED = {"State", "Input", "Bad"}
 HOLDS = 4
 TOP = 2**64 - 1
 
@@ -39,7 +40,10 @@ def commands():
 
     def put(place, *fields):
         if place < HOLDS:
-            records[place] = list(fields)
+            nid, kind, sort, op1, *others, imm, area, at, length = fields
+            # a State, an Input and a Bad have a name and no second and third operand; both stand in the same words
+            shared = [area, at] if 1 <= kind <= len(KINDS) and KINDS[kind - 1] in NAMED else others
+            records[place] = [nid, kind, sort, op1, *shared, imm, *shared, length]
         return (1, place, *fields), "put" if place < HOLDS else "outside"
 
     def get(place):
@@ -58,7 +62,7 @@ def commands():
 
     yield get(0)
     yield look(1, 0)
-    for place in (3, 0, 2, 4, 5, TOP // 10, TOP):  # the last one that fits, and past it; all words as large as can be
+    for place in (3, 0, 2, 4, 5, TOP // 8, TOP):  # the last one that fits, and past it; all words as large as can be
         yield put(place, *(TOP - i for i in range(10)))
         yield get(place)
         for other in range(HOLDS):

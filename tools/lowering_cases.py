@@ -71,7 +71,7 @@ class Batch:
         return nid - FIRST if nid < START else self.first + nid - START
 
     def record(self, text):
-        """The ten numbers of a node line, and its name where it is bad."""
+        """The numbers of a node line as its record is read, and its name where it is bad."""
         nid, operator, *rest = text.split()
         assert int(nid) == self.rust and self.lines < HOLDS
         kind = OPERATORS.index(operator) + 1
@@ -88,8 +88,9 @@ class Batch:
             imm, operands = int(operands[0]), []
         if operator == "uext":  # printed with the bits that it adds; the record has the sort that it extends
             sort, operands = SORT_OF_WIDTH[64 - int(operands[1])], operands[:1]
-        ops = [self.place(o) for o in operands] + [0] * (3 - len(operands))
-        numbers = (self.nid, kind, sort, *ops, imm, *name)
+        op1, *others = [self.place(o) for o in operands] + [0] * (3 - len(operands))
+        shared = name[:2] if operator == "bad" else others  # a name's area and place stand where other lines have operands
+        numbers = (self.nid, kind, sort, op1, *shared, imm, *shared, name[2])
         self.lines += 1
         self.nid += 1
         self.rust += 1

@@ -32,7 +32,7 @@ ROLE_SORTS = (
 assert len(ROLE_SORTS) == 79
 
 # What the program has: words of the list, and the most that it lends of the rest.
-WORDS, AREA, NUMBERS = 600, 64, 64
+WORDS, AREA, NUMBERS = 480, 64, 64
 
 
 class Line:
@@ -114,7 +114,7 @@ def counts_out(s):
     return (
         s.lines > 1048576
         or s.next > 2**31
-        or s.lines > s.words // 10
+        or s.lines > s.words // 8
         or s.names > s.area
         or s.edges > s.edge_words // 4
         or s.dispatches > s.dispatch_words // 2
@@ -240,8 +240,8 @@ def accepted():
     yield small(nids=(8, 9, 10), next_nid=18)
     yield small(nids=(10, 18, 19))
     yield small(nids=(4, 10, 2**31 - 1))
-    yield listing(words=390)
-    yield listing(words=399)
+    yield listing(words=312)
+    yield listing(words=319)
     yield listing(area=0, edge_words=0, dispatch_words=0, bad_words=0)
     yield small(names=16, edges=2, dispatches=2, bads=2)
     yield small(edge_words=7, edges=1)
@@ -273,7 +273,7 @@ def refused_9():
     yield small(lines=1048577)
     yield small(lines=TOP)
     yield small(lines=61)
-    yield listing(words=389)
+    yield listing(words=311)
     yield listing(words=0)
     for count in (17, TOP):
         yield small(names=count)
@@ -437,7 +437,7 @@ def drawn(seed, count):
         if seldom():
             s.roles[draw.randrange(79)] = draw.randrange(s.lines)
         if seldom():
-            s.words = 10 * draw.randrange(8, 18)
+            s.words = 8 * draw.randrange(8, 18)
         yield s
 
 

@@ -16,7 +16,7 @@ use Rattle.btor2_list.specs.declared.Line.{Line}
 use Rattle.btor2_list.specs.Record.{stride, lineAt, holds, putAt}
 use Rattle.btor2_list.specs.Node.{Node, node, lineOf, opOf, nodeOf}
 use Rattle.btor2_list.specs.View.{view}
-use Rattle.btor2_list.proofs.Stored.{put-line, put-other}
+use Rattle.btor2_list.proofs.Stored.{put-node, put-other}
 
 -- ---- a line that is written is read as itself
 
@@ -77,5 +77,5 @@ pub view-put : (ws : List ℕ) (n : ℕ) (l : Line) → holds ws n ≡ true → 
 unfolding view
 view-put ws n l there =
     let v = view-kept ws n l n (omega arith) in
-    let d = put-line ws n l there in
-    rw add-one (λ i. v i ++ (nodeOf (d i) ∷ []))
+    let d = put-node ws n l there in
+    rw add-one (λ i. v i ++ (d i ∷ []))

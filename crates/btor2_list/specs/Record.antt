@@ -1,8 +1,8 @@
--- The lent words: records of ten words, one behind the other.
+-- The lent words: records of eight words, one behind the other.
 use Prim.Native.Nat.{ℕ, _+_, _*_, _/_}
-use mathlib.Core.Bool.{Bool, cond}
+use mathlib.Core.Bool.{Bool, cond, _||_}
 use mathlib.Core.List.{List, [], _∷_}
-use lib.Dec.{ltb}
+use lib.Dec.{ltb, eqb}
 use lib.ListN.{length, getD}
 use lib.Seq.{sets}
 use Rattle.btor2_list.specs.declared.Line.{Line}
@@ -11,12 +11,24 @@ use Rattle.btor2_list.specs.declared.Found.the-variants.{Line as at, Out
 
 -- the words of one record
 abbrev pub stride : ℕ
-stride = 10
+stride = 8
+
+-- the lines that have a name: State, Input and Bad. They have no second and third operand, so that name and operands share two words.
+abbrev pub named : ℕ → Bool
+named kind = eqb kind 19 || (eqb kind 21 || eqb kind 22)
 
 -- the fields of a record, in the order of their words
 abbrev pub words : Line → List ℕ
 words l =
-    l .nid .0 ∷ l .kind ∷ l .sort ∷ l .op1 .0 ∷ l .op2 .0 ∷ l .op3 .0 ∷ l .imm ∷ l .name .area ∷ l .name .at ∷ l .name .len ∷ []
+    l .nid .0
+    ∷ l .kind
+    ∷ l .sort
+    ∷ l .op1 .0
+    ∷ cond (named (l .kind)) (l .name .area) (l .op2 .0)
+    ∷ cond (named (l .kind)) (l .name .at) (l .op3 .0)
+    ∷ l .imm
+    ∷ l .name .len
+    ∷ []
 
 -- word k of the record whose first word is word b, and that record
 abbrev pub word : List ℕ → ℕ → ℕ → ℕ
@@ -31,7 +43,7 @@ lineAt ws b = record {
   op2 = record { 0 = word ws b 4 };
   op3 = record { 0 = word ws b 5 };
   imm = word ws b 6;
-  name = record { area = word ws b 7; at = word ws b 8; len = word ws b 9 };
+  name = record { area = word ws b 4; at = word ws b 5; len = word ws b 7 };
 }
 
 -- the words reach over the record at place p

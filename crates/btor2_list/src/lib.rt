@@ -7,16 +7,17 @@ use btor2::NodeType;
 use btor2::sort_of;
 ghost use mathlib.Core.Path.{_≡_};
 ghost use Prim.Native.Nat.{_+_, _≤_};
+ghost use mathlib.Core.List.{[], _∷_};
 ghost use lib.ListN.{length};
 ghost use lib.Seq.{sets};
 ghost use Rattle.btor2.specs.Op.{carried};
 ghost use Rattle.btor2_list.specs.declared.Line.{Line};
-ghost use Rattle.btor2_list.specs.Record.{words, lineAt, holds, putAt, getAt};
+ghost use Rattle.btor2_list.specs.Record.{named, words, lineAt, holds, putAt, getAt};
 ghost use Rattle.btor2_list.specs.Node.{opOf};
 ghost use Rattle.btor2_list.specs.Look.{lookAt};
 
 // The words of one record, and where each field stands in it.
-pub const STRIDE: usize = 10;
+pub const STRIDE: usize = 8;
 
 pub const AT_NID: usize = 0;
 
@@ -32,11 +33,12 @@ pub const AT_OP3: usize = 5;
 
 pub const AT_IMM: usize = 6;
 
-pub const AT_NAME_AREA: usize = 7;
+// A named line has no second and third operand: its name stands there.
+pub const AT_NAME_AREA: usize = 4;
 
-pub const AT_NAME_AT: usize = 8;
+pub const AT_NAME_AT: usize = 5;
 
-pub const AT_NAME_LEN: usize = 9;
+pub const AT_NAME_LEN: usize = 7;
 
 // The kinds of a record, in the order of unicorn's `Node`.
 pub const CONST: u64 = 1;
@@ -123,19 +125,81 @@ pub fn put(list: &mut [u64], place: NodeRef, line: Line) -> bool
 }
 
 fn store(list: &mut [u64], at: usize, line: Line)
-    requires { ⌜ at + 10 ≤ length (now list) ⌝ }
+    requires { ⌜ at + 8 ≤ length (now list) ⌝ }
     ensures { λ _. ⌜ now (list .exit) ≡ sets (now (list .entry)) at (words line) ⌝ }
 {
-    list[at + AT_NID] = line.nid.0;
-    list[at + AT_KIND] = line.kind;
-    list[at + AT_SORT] = line.sort;
-    list[at + AT_OP1] = line.op1.0 as u64;
-    list[at + AT_OP2] = line.op2.0 as u64;
-    list[at + AT_OP3] = line.op3.0 as u64;
-    list[at + AT_IMM] = line.imm;
-    list[at + AT_NAME_AREA] = line.name.area;
-    list[at + AT_NAME_AT] = line.name.at;
-    list[at + AT_NAME_LEN] = line.name.len;
+    let a = line.op1.0 as u64;
+    let name = line.name;
+    if is_named(line.kind) {
+        store_words(
+            list,
+            at,
+            line.nid.0,
+            line.kind,
+            line.sort,
+            a,
+            name.area,
+            name.at,
+            line.imm,
+            name.len,
+        );
+        return;
+    }
+    let b = line.op2.0 as u64;
+    let c = line.op3.0 as u64;
+    store_words(
+        list,
+        at,
+        line.nid.0,
+        line.kind,
+        line.sort,
+        a,
+        b,
+        c,
+        line.imm,
+        name.len,
+    );
+}
+
+// Whether lines of a kind have a name.
+fn is_named(kind: u64) -> bool
+    ensures { λ r. ⌜ r ≡ named kind ⌝ }
+{
+    if kind == STATE {
+        return true;
+    }
+    if kind == INPUT {
+        return true;
+    }
+    if kind == BAD {
+        return true;
+    }
+    false
+}
+
+fn store_words(
+    list: &mut [u64],
+    at: usize,
+    nid: u64,
+    kind: u64,
+    sort: u64,
+    op1: u64,
+    second: u64,
+    third: u64,
+    imm: u64,
+    len: u64,
+)
+    requires { ⌜ at + 8 ≤ length (now list) ⌝ }
+    ensures { λ _. ⌜ now (list .exit) ≡ sets (now (list .entry)) at (nid ∷ kind ∷ sort ∷ op1 ∷ second ∷ third ∷ imm ∷ len ∷ []) ⌝ }
+{
+    list[at + AT_NID] = nid;
+    list[at + AT_KIND] = kind;
+    list[at + AT_SORT] = sort;
+    list[at + AT_OP1] = op1;
+    list[at + AT_OP2] = second;
+    list[at + AT_OP3] = third;
+    list[at + AT_IMM] = imm;
+    list[at + AT_NAME_LEN] = len;
 }
 
 // The record at a place.
@@ -150,7 +214,7 @@ pub fn get(list: &[u64], place: NodeRef) -> Found
 }
 
 fn fetch(list: &[u64], at: usize) -> Line
-    requires { ⌜ at + 10 ≤ length (now list) ⌝ }
+    requires { ⌜ at + 8 ≤ length (now list) ⌝ }
     ensures { λ r. ⌜ r ≡ lineAt (now (list .entry)) at ⌝ }
 {
     Line {

@@ -84,7 +84,7 @@ pub fn line_unformed(list: &[u64], i: usize, host: usize, ours: usize) -> bool
 // Line i alone. In a long list the jump of a match on the kind is guessed wrongly for most lines, so that a test which nearly all of them
 // pass stands in front of it.
 fn record_unformed(list: &[u64], i: usize, host: usize, ours: usize) -> bool
-    requires { ⌜ i < length (now list) / 10 ⌝ }
+    requires { ⌜ i < length (now list) / 8 ⌝ }
     ensures { λ r. ⌜ r ≡ opUnformed host ours (outBefore (now (list .entry)) i) (opOf (lineAt (now (list .entry)) (i * stride))) ⌝ }
 {
     if plainly_formed(list, i) {
@@ -97,7 +97,7 @@ fn record_unformed(list: &[u64], i: usize, host: usize, ours: usize) -> bool
 // the kind uses these fields. In a list that the builder wrote an unused operand is 0, an earlier value line, so that each branch nearly
 // always goes the same way.
 fn plainly_formed(list: &[u64], i: usize) -> bool
-    requires { ⌜ i < length (now list) / 10 ⌝ }
+    requires { ⌜ i < length (now list) / 8 ⌝ }
     ensures { λ r. ⌜ (r ≡ true → (host ours : ℕ) → opUnformed host ours (outBefore (now (list .entry)) i) (opOf (lineAt (now (list .entry)) (i * stride))) ≡ false) ⌝ }
 {
     let at = i * STRIDE;
@@ -133,7 +133,7 @@ fn known_sort(number: u64) -> bool
 
 // By a match on the kind: the fields that it uses.
 fn unformed_by_kind(list: &[u64], i: usize, host: usize, ours: usize) -> bool
-    requires { ⌜ i < length (now list) / 10 ⌝ }
+    requires { ⌜ i < length (now list) / 8 ⌝ }
     ensures { λ r. ⌜ r ≡ opUnformed host ours (outBefore (now (list .entry)) i) (opOf (lineAt (now (list .entry)) (i * stride))) ⌝ }
 {
     let at = i * STRIDE;
@@ -167,7 +167,7 @@ fn unformed_by_kind(list: &[u64], i: usize, host: usize, ours: usize) -> bool
 
 // An Ext: the sort that it extends from is unknown or Memory, or its operand is out.
 fn extended_out(list: &[u64], i: usize) -> bool
-    requires { ⌜ i < length (now list) / 10 ⌝ }
+    requires { ⌜ i < length (now list) / 8 ⌝ }
     ensures { λ r. ⌜ ((host ours : ℕ) → word (now (list .entry)) (i * stride) 1 ≡ 13 → r ≡ opUnformed host ours (outBefore (now (list .entry)) i) (opOf (lineAt (now (list .entry)) (i * stride)))) ⌝ }
 {
     let at = i * STRIDE;
@@ -179,7 +179,7 @@ fn extended_out(list: &[u64], i: usize) -> bool
 
 // A State has an operand where the constant is not 0.
 fn state_out(list: &[u64], i: usize, host: usize, ours: usize) -> bool
-    requires { ⌜ i < length (now list) / 10 ⌝ }
+    requires { ⌜ i < length (now list) / 8 ⌝ }
     ensures { λ r. ⌜ r ≡ (nameOutside host ours (lineAt (now (list .entry)) (i * stride) .name) || (not (eqb (word (now (list .entry)) (i * stride) 6) 0) && outAt (now (list .entry)) i 3)) ⌝ }
 {
     let at = i * STRIDE;
@@ -188,7 +188,7 @@ fn state_out(list: &[u64], i: usize, host: usize, ours: usize) -> bool
 
 // Its first two operands.
 fn two_out(list: &[u64], i: usize) -> bool
-    requires { ⌜ i < length (now list) / 10 ⌝ }
+    requires { ⌜ i < length (now list) / 8 ⌝ }
     ensures { λ r. ⌜ r ≡ any (outAt (now (list .entry)) i) (3 ∷ 4 ∷ []) ⌝ }
 {
     operand_out(list, i, AT_OP1) || operand_out(list, i, AT_OP2)
@@ -196,7 +196,7 @@ fn two_out(list: &[u64], i: usize) -> bool
 
 // All three.
 fn three_out(list: &[u64], i: usize) -> bool
-    requires { ⌜ i < length (now list) / 10 ⌝ }
+    requires { ⌜ i < length (now list) / 8 ⌝ }
     ensures { λ r. ⌜ r ≡ any (outAt (now (list .entry)) i) (3 ∷ 4 ∷ 5 ∷ []) ⌝ }
 {
     operand_out(list, i, AT_OP1) || (operand_out(list, i, AT_OP2) || operand_out(list, i, AT_OP3))
@@ -205,7 +205,7 @@ fn three_out(list: &[u64], i: usize) -> bool
 // The operand at word k is out: not the place of a value line before line i. Of lines of a known kind and sort only Next and Bad carry no
 // value, so that no sort is looked at.
 fn operand_out(list: &[u64], i: usize, k: usize) -> bool
-    requires { ⌜ (i < length (now list) / 10) × (k < 10) ⌝ }
+    requires { ⌜ (i < length (now list) / 8) × (k < 8) ⌝ }
     ensures { λ r. ⌜ r ≡ outAt (now (list .entry)) i k ⌝ }
 {
     let at = i * STRIDE;
@@ -220,7 +220,7 @@ fn operand_out(list: &[u64], i: usize, k: usize) -> bool
 
 // Its own sort is unknown.
 fn no_sort(list: &[u64], i: usize) -> bool
-    requires { ⌜ i < length (now list) / 10 ⌝ }
+    requires { ⌜ i < length (now list) / 8 ⌝ }
     ensures { λ r. ⌜ r ≡ not (hasValue (sortNumbered (word (now (list .entry)) (i * stride) 2))) ⌝ }
 {
     let at = i * STRIDE;
@@ -232,7 +232,7 @@ fn no_sort(list: &[u64], i: usize) -> bool
 
 // A name that is not missing has all its bytes in its area. A mark that is none of the two areas' and not 0 is outside.
 fn name_out(list: &[u64], i: usize, host: usize, ours: usize) -> bool
-    requires { ⌜ i < length (now list) / 10 ⌝ }
+    requires { ⌜ i < length (now list) / 8 ⌝ }
     ensures { λ r. ⌜ r ≡ nameOutside host ours (lineAt (now (list .entry)) (i * stride) .name) ⌝ }
 {
     let at = i * STRIDE;

@@ -89,7 +89,7 @@ fn roomy(
 // both, as the list is longer than caches are. It goes by blocks: the test of the identifiers is short, so that a processor fetches the
 // records of many lines at once, which the other test then finds at hand.
 fn survey(list: &[u64], lines: usize, host: usize, ours: usize) -> usize
-    requires { ⌜ lines ≤ length (now list) / 10 ⌝ }
+    requires { ⌜ lines ≤ length (now list) / 8 ⌝ }
     ensures { λ r. ⌜ (r < 2 ^ 64 - 1 → Surveyed (now (list .entry)) lines host ours lines r) ⌝ }
 {
     let mut names = 0;
@@ -121,7 +121,7 @@ fn block_end(i: usize, lines: usize) -> usize
 
 // Some line from `from` on and before `to` has an identifier above the largest.
 fn nids_beyond(list: &[u64], from: usize, to: usize) -> bool
-    requires { ⌜ to ≤ length (now list) / 10 ⌝ }
+    requires { ⌜ to ≤ length (now list) / 8 ⌝ }
     ensures { λ r. ⌜ (r ≡ false → (p : ℕ) → from ≤ p → p < to → getD (now (list .entry)) (p * stride) 0 ≤ 2 ^ 31 + 2097152) ⌝ }
 {
     let mut i = from;
@@ -144,7 +144,7 @@ fn survey_block(
     ours: usize,
     names: usize,
 ) -> usize
-    requires { ⌜ (from ≤ to) × (to ≤ length (now list) / 10) ⌝ }
+    requires { ⌜ (from ≤ to) × (to ≤ length (now list) / 8) ⌝ }
     ensures { λ r. ⌜ (r < 2 ^ 64 - 1 → Blocked (now (list .entry)) host ours from to names r) ⌝ }
 {
     let mut room = names;
@@ -161,7 +161,7 @@ fn survey_block(
 
 // `names`, and the room for the name of line i where lines of its kind are named.
 fn name_room(list: &[u64], i: usize, names: usize) -> usize
-    requires { ⌜ i < length (now list) / 10 ⌝ }
+    requires { ⌜ i < length (now list) / 8 ⌝ }
     ensures { λ r. ⌜ (r < 2 ^ 64 - 1 → names + roomOf (said (now (list .entry)) i) ≤ r) ⌝ }
 {
     let at = i * btor2_list::STRIDE;

@@ -83,7 +83,7 @@ fn role_sort(role: usize) -> u64
 // Whether the value at a place is not of the sort of this number. Most roles are constants, states and ites, whose record says its own sort:
 // these are told without a lookup.
 fn role_out(list: &[u64], lines: usize, held: usize, place: NodeRef, sort: u64) -> bool
-    requires { ⌜ (held ≡ length (now list) / 10) × ((sort ≡ 0 → ⊥) × (sort ≤ 3)) ⌝ }
+    requires { ⌜ (held ≡ length (now list) / 8) × ((sort ≡ 0 → ⊥) × (sort ≤ 3)) ⌝ }
     ensures { λ r. ⌜ r ≡ not (eqb (valueNumber (lookAt (now (list .entry)) lines (place .0))) sort) ⌝ }
 {
     let p = place.0;

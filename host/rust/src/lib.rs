@@ -30,7 +30,7 @@ mod ffi {
 }
 
 /// The words of a line, an edge, a dispatch, the state and a call.
-pub const LINE: usize = 10;
+pub const LINE: usize = 8;
 pub const EDGE: usize = 4;
 pub const DISPATCH: usize = 2;
 pub const STATE: usize = 85;

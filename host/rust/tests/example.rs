@@ -24,7 +24,7 @@ fn start() -> Storage {
     let states = [2; 31].into_iter().chain([3, 3, 2, 1]).map(|sort| (19, sort, 0));
     let mut list = vec![0; 1024 * LINE];
     for (place, (kind, sort, imm)) in constants.into_iter().chain(states).enumerate() {
-        list[place * LINE..(place + 1) * LINE].copy_from_slice(&[FIRST + place as u64, kind, sort, 0, 0, 0, imm, 0, 0, 0]);
+        list[place * LINE..(place + 1) * LINE].copy_from_slice(&[FIRST + place as u64, kind, sort, 0, 0, 0, imm, 0]);
     }
     let counts = [START as u64, FIRST + START as u64, 0, 0, 0, 0];
     let nodes = [0, 1, 2, 3, 35, 36, 37, 2].into_iter().chain(4..35);
