@@ -1,7 +1,7 @@
 -- A run is its first line and the run behind it. Assumes nothing.
 use Prim.Native.Nat.{ℕ, zero, suc, _+_, _-_, _≤_, _<_}
-use mathlib.Core.Path.{_≡_, refl, sym, ap, _∙_}
-use mathlib.Core.List.{List, [], _++_, append-assoc}
+use mathlib.Core.Path.{_≡_, sym, ap, _∙_}
+use mathlib.Core.List.{List, [], _++_}
 use native.Mathlib.Decide.{decLe}
 use native.Mathlib.Numerals.{add-one}
 use native.Mathlib.Omega.{arith}
@@ -40,19 +40,3 @@ module _ (host ours : List ℕ) (ns : List Node) where
   pub run-on : (p n : ℕ) → 0 < n → runText host ours ns p n ≡ nodeText host ours ns (nodeAt ns p) ++ runText host ours ns (p + 1) (n - 1)
   run-on p zero h = absurd (omega arith)
   run-on p (suc n) h = let e : suc n - 1 ≡ n = omega arith in rw (add-one p, e) (run-suc p n)
-
-  -- and so it is of any number of its first lines
-  pub run-split : (n p m : ℕ) → runText host ours ns p (n + m) ≡ runText host ours ns p n ++ runText host ours ns (p + n) m
-  run-split zero p m =
-      let a : 0 + m ≡ m = omega arith in
-      let b : p + 0 ≡ p = omega arith in
-      rw (run-none p 0 refl, a, b)
-  run-split (suc n) p m =
-      let a : suc n + m ≡ suc (n + m) = omega arith in
-      let b : suc p + n ≡ p + suc n = omega arith in
-      let line = nodeText host ours ns (nodeAt ns p) in
-      ap (runText host ours ns p) a
-      ∙ run-suc p (n + m)
-      ∙ ap (λ (t : List ℕ). line ++ t) (run-split n (suc p) m ∙ ap (λ (k : ℕ). runText host ours ns (suc p) n ++ runText host ours ns k m) b)
-      ∙ sym (append-assoc line (runText host ours ns (suc p) n) (runText host ours ns (p + suc n) m))
-      ∙ ap (λ (t : List ℕ). t ++ runText host ours ns (p + suc n) m) (sym (run-suc p n))

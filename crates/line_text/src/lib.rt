@@ -4,17 +4,9 @@ use btor2::NodeRef;
 use btor2_list::Found;
 use btor2_list::Line;
 ghost use mathlib.Core.Path.{_≡_};
-ghost use Prim.Native.Nat.{_+_, _/_, _^_, _≤_, _<_, min};
-ghost use lib.ListN.{length};
 ghost use Rattle.text.specs.Put.{Put};
 ghost use Rattle.btor2_list.specs.Node.{nodeOf};
 ghost use Rattle.line_text.specs.Line.{nodes, nodeAt, nidAt, nodeText, runText};
-
-// The lines of a block.
-const BLOCK: usize = 1024;
-
-// A word with a one in every bit.
-const FULL: u64 = 18446744073709551615;
 
 // The identifier of the line at a place (unicorn's `get_nid`), 0 where there is none.
 pub fn nid_at(list: &[u64], lines: usize, place: NodeRef) -> Nid
@@ -69,7 +61,7 @@ pub fn put_line<'a>(
     }
 }
 
-// The `count` lines from a place on; fewer where the list ends. They are put by blocks.
+// The `count` lines from a place on; fewer where the list ends.
 pub fn put_run<'a>(
     out: &mut [u8],
     at: usize,
@@ -93,71 +85,6 @@ pub fn put_run<'a>(
         if held <= place {
             return p;
         }
-        let n = read_block(list, place, left);
-        p = put_block(out, p, list, lines, host, ours, place, n);
-        place += n;
-        left -= n;
-    }
-    p
-}
-
-// How many lines are put next: up to a block of them. Each of their records is read here, so that a processor fetches many at once from a
-// list that is longer than caches are; line by line it would wait for each. A reading that decides nothing is dropped by the compiler, so
-// a block whose identifiers have a one in every bit is put with its first line alone.
-fn read_block(list: &[u64], place: usize, left: usize) -> usize
-    requires { ⌜ (place < length (now list) / 8) × (0 < left) ⌝ }
-    ensures { λ r. ⌜ (0 < r) × ((r ≤ left) × (place + r ≤ length (now (list .entry)) / 8)) ⌝ }
-{
-    let end = block_end(place, left, list.len() / btor2_list::STRIDE);
-    let mut all: u64 = 0;
-    let mut i = place;
-    while i < end {
-        let at = i * btor2_list::STRIDE;
-        all = all | list[at + btor2_list::AT_NID];
-        i += 1;
-    }
-    if all == FULL {
-        return 1;
-    }
-    end - place
-}
-
-// The end of a block of at most `left` lines from a place on, of `held`.
-fn block_end(place: usize, left: usize, held: usize) -> usize
-    requires { ⌜ (place < held) × (0 < left) ⌝ }
-    ensures { λ r. ⌜ (place < r) × ((r ≤ held) × (r ≤ place + left)) ⌝ }
-{
-    let most = fewer(left, BLOCK);
-    place + fewer(most, held - place)
-}
-
-fn fewer(a: usize, b: usize) -> usize
-    ensures { λ r. ⌜ r ≡ min a b ⌝ }
-{
-    if a < b {
-        return a;
-    }
-    b
-}
-
-// Lines of the list.
-fn put_block<'a>(
-    out: &mut [u8],
-    at: usize,
-    list: &[u64],
-    lines: usize,
-    host: &'a [u8],
-    ours: &'a [u8],
-    from: usize,
-    count: usize,
-) -> usize
-    requires { ⌜ from + count < 2 ^ 64 ⌝ }
-    ensures { λ r. ⌜ Put (now (out .entry)) at (runText (now (host .entry)) (now (ours .entry)) (nodes (now (list .entry)) lines) from count) (now (out .exit)) r ⌝ }
-{
-    let mut p = at;
-    let mut place = from;
-    let mut left = count;
-    while 0 < left {
         p = put_line(out, p, list, lines, host, ours, NodeRef(place));
         place += 1;
         left -= 1;

@@ -51,11 +51,6 @@ pub record Surveyed (ws : List ℕ) (lines host ours n r : ℕ) : Type 0 where
   pub formed : some n (λ p. opUnformed host ours (noValueAt ws p) (said ws p)) ≡ false
   pub room : rooms ws n ≤ r
 
--- the same of the lines from one on and before another: what holds of those before the first holds of all
-pub record Blocked (ws : List ℕ) (host ours from to names r : ℕ) : Type 0 where
-  pub formed : some from (λ p. opUnformed host ours (noValueAt ws p) (said ws p)) ≡ false → some to (λ p. opUnformed host ours (noValueAt ws p) (said ws p)) ≡ false
-  pub room : rooms ws from ≤ names → rooms ws to ≤ r
-
 pub record Roomy (ws : List ℕ) (lines host ours from count end : ℕ) : Type 0 where
   pub in-bounds : boundsOut ws lines from count ≡ false
   pub nids : nidsOut ws lines ≡ false

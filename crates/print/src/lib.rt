@@ -1,12 +1,11 @@
 // Prints a run of the list's lines into an output, or refuses.
 use btor2::NodeRef;
 ghost use mathlib.Core.Path.{_≡_};
-ghost use mathlib.Core.Bool.{true, false};
-ghost use Prim.Native.Nat.{ℕ, _+_, _-_, _*_, _/_, _^_, _<_, _≤_, min};
-ghost use lib.ListN.{length, getD};
-ghost use Rattle.btor2_list.specs.Record.{stride};
+ghost use mathlib.Core.Bool.{true};
+ghost use Prim.Native.Nat.{_+_, _-_, _/_, _^_, _<_, _≤_, min};
+ghost use lib.ListN.{length};
 ghost use Rattle.line_text.specs.Line.{nodes, runText};
-ghost use Rattle.print.specs.Room.{said, roomOf, runOut, Surveyed, Blocked, Roomy};
+ghost use Rattle.print.specs.Room.{said, roomOf, runOut, Surveyed, Roomy};
 ghost use Rattle.print.specs.Printing.{nidsOut, boundsOut, answerOf, outcome, printing};
 
 // The most lines that a list holds, and the largest identifier of a line.
@@ -18,9 +17,6 @@ const MOST_NID: u64 = 2_149_580_800;
 const LINE_ROOM: usize = 53;
 
 const NAMED_ROOM: usize = 10;
-
-// The lines that are looked at together.
-const BLOCK: usize = 1024;
 
 // The largest number: more than any room.
 const LAST: usize = 18446744073709551615;
@@ -86,8 +82,7 @@ fn roomy(
 }
 
 // The room for the names of all lines, or the largest number where a line has too large an identifier or is not well formed: one pass for
-// both, as the list is longer than caches are. It goes by blocks: the test of the identifiers is short, so that a processor fetches the
-// records of many lines at once, which the other test then finds at hand.
+// both, as the list is longer than caches are.
 fn survey(list: &[u64], lines: usize, host: usize, ours: usize) -> usize
     requires { ⌜ lines ≤ length (now list) / 8 ⌝ }
     ensures { λ r. ⌜ (r < 2 ^ 64 - 1 → Surveyed (now (list .entry)) lines host ours lines r) ⌝ }
@@ -95,68 +90,17 @@ fn survey(list: &[u64], lines: usize, host: usize, ours: usize) -> usize
     let mut names = 0;
     let mut i = 0;
     while i < lines {
-        let end = block_end(i, lines);
-        if nids_beyond(list, i, end) {
-            return LAST;
-        }
-        names = survey_block(list, i, end, host, ours, names);
-        if names == LAST {
-            return LAST;
-        }
-        i = end;
-    }
-    names
-}
-
-// Where the block that begins with line i ends.
-fn block_end(i: usize, lines: usize) -> usize
-    requires { ⌜ i < lines ⌝ }
-    ensures { λ r. ⌜ (i < r) × (r ≤ lines) ⌝ }
-{
-    if lines - i <= BLOCK {
-        return lines;
-    }
-    i + BLOCK
-}
-
-// Some line from `from` on and before `to` has an identifier above the largest.
-fn nids_beyond(list: &[u64], from: usize, to: usize) -> bool
-    requires { ⌜ to ≤ length (now list) / 8 ⌝ }
-    ensures { λ r. ⌜ (r ≡ false → (p : ℕ) → from ≤ p → p < to → getD (now (list .entry)) (p * stride) 0 ≤ 2 ^ 31 + 2097152) ⌝ }
-{
-    let mut i = from;
-    while i < to {
         let at = i * btor2_list::STRIDE;
         if MOST_NID < list[at] {
-            return true;
+            return LAST;
         }
-        i += 1;
-    }
-    false
-}
-
-// `names`, and the room for the names of these lines, or the largest number where one is not well formed. Those before are.
-fn survey_block(
-    list: &[u64],
-    from: usize,
-    to: usize,
-    host: usize,
-    ours: usize,
-    names: usize,
-) -> usize
-    requires { ⌜ (from ≤ to) × (to ≤ length (now list) / 8) ⌝ }
-    ensures { λ r. ⌜ (r < 2 ^ 64 - 1 → Blocked (now (list .entry)) host ours from to names r) ⌝ }
-{
-    let mut room = names;
-    let mut i = from;
-    while i < to {
         if list_check::line_unformed(list, i, host, ours) {
             return LAST;
         }
-        room = name_room(list, i, room);
+        names = name_room(list, i, names);
         i += 1;
     }
-    room
+    names
 }
 
 // `names`, and the room for the name of line i where lines of its kind are named.

@@ -1,16 +1,15 @@
 -- What is put, and the run from here on, are the whole run. Assumes nothing.
-use Prim.Native.Nat.{ℕ, _+_, _-_, _≤_}
+use Prim.Native.Nat.{ℕ, _≤_}
 use mathlib.Core.Path.{_≡_, refl, sym, ap, _∙_}
 use mathlib.Core.List.{List, [], _++_, append-assoc, append-nil}
 use lib.ListN.{length}
 use denote.Ref.{now}
 use native.Mathlib.Omega.{arith}
-use Rattle.btor2_list.specs.Node.{Node}
 use Rattle.text.specs.Put.{Put}
 use Rattle.text.proofs.Laws.{then, put-as, put-length}
-use Rattle.line_text.specs.Line.{nodes, runText}
+use Rattle.line_text.specs.Line.{nodes, nodeAt, nodeText, runText}
 use Rattle.line_text.proofs.Listed.{length-nodes}
-use Rattle.line_text.proofs.Runs.{run-past, run-none, run-split}
+use Rattle.line_text.proofs.Runs.{run-past, run-none, run-on}
 use borrow.Author.Needs.{needs}
 use Rattle.line_text.proofs.put_run.Statement.{statement}
 use Rattle.line_text.proofs.put_run.Tie as tie
@@ -51,23 +50,16 @@ returns-2 c =
     let a = l .before .before .before .before .before .args in
     ended l (omega (arith, length-nodes (now (a .list)) (a .lines) 0, c .if2 .taken))
 
--- the run from a place on is a block of it and the run behind that
-block-on : (host ours : List ℕ) (ns : List Node) (p n left : ℕ) → n ≤ left → runText host ours ns p left ≡ runText host ours ns p n ++ runText host ours ns (p + n) (left - n)
-block-on host ours ns p n left h = let e : left ≡ n + (left - n) = omega arith in ap (runText host ours ns p) e ∙ run-split host ours ns n p (left - n)
-
 loop-again : tie.Need-loop-again Inv-loop μ-loop
 loop-again c =
     let q = c .before .before in
-    let b = q .before .before in
-    let l = b .before .before .before .before in
-    let s = l .before .before .before .before .before in
-    let a = s .args in
+    let l = q .before .before .before .before .before in
+    let a = l .before .before .before .before .before .args in
     let ns = nodes (now (a .list)) (a .lines) in
-    let n = b .read-block .result in
-    let t = runText (now (a .host)) (now (a .ours)) ns (l .loop .place) n in
-    let on = block-on (now (a .host)) (now (a .ours)) ns (l .loop .place) n (l .loop .left) (b .read-block .ensures .1 .0) in (
+    let t = nodeText (now (a .host)) (now (a .ours)) ns (nodeAt ns (l .loop .place)) in
+    let on = run-on (now (a .host)) (now (a .ours)) ns (l .loop .place) (l .loop .left) (omega arith) in (
       l .loop .inv .0 ++ t,
-      then (s .good .0 .0) (l .loop .inv .1) (q .put-block .ensures),
+      then (l .before .before .before .before .before .good .0 .0) (l .loop .inv .1) (q .put-line .ensures),
       append-assoc (l .loop .inv .0) t _ ∙ ap (λ (r : List ℕ). l .loop .inv .0 ++ r) (sym on) ∙ l .loop .inv .2,
     )
 
@@ -86,4 +78,4 @@ returns-3 c =
 pub put-run-spec : {M : Type 1} → statement M
 put-run-spec =
     tie.close
-    (tie.spec Inv-loop μ-loop loop-holds same-length returns same-length-2 returns-2 (λ c κs. search needs) (λ c κs. search needs) (λ c. search needs) (λ c. search needs) (λ c. search needs) loop-again same-length-3 returns-3)
+    (tie.spec Inv-loop μ-loop loop-holds same-length returns same-length-2 returns-2 (λ c κs. search needs) (λ c. search needs) (λ c. search needs) (λ c. search needs) loop-again same-length-3 returns-3)
