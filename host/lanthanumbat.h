@@ -4,16 +4,16 @@
 // All storage is the host's: a function takes a pointer and a length in elements, keeps neither, and allocates nothing. No two areas of one
 // call may overlap. A pointer whose length is 0 is not read, but must not be NULL. Words behind those in use are spare room; an accepted call writes there only.
 //
-// LIST: a line is 8 words, and its place is its index. Word by word:
-//   0 identifier
-//   1 kind: 1 const, 2 read, 3 write, 4 add, 5 sub, 6 mul, 7 udiv, 8 sdiv, 9 urem, 10 sll, 11 srl, 12 ult, 13 uext, 14 ite, 15 eq, 16 and,
-//     17 or, 18 not, 19 state, 20 next, 21 input, 22 bad
-//   2 sort: 1 bit, 2 word of 64 bits, 3 memory, 11 to 17 an input of 1 to 7 bytes; the sort that uext extends from
-//   3 first operand, as a place; the init of a state
-//   4 5 second and third operand, as places; of a state, an input and a bad, which have none, the name's area (1 the host's, 2 ours, else
-//     none) and its first byte in the area
-//   6 value of a const; of a state not 0 where it has an init
-//   7 of a state, an input and a bad the name's length
+// LIST: a line is 4 words, and its place is its index. Word by word:
+//   0 from its lowest byte on, LANTHANUMBAT_HEAD makes one:
+//     byte 0 kind: 1 const, 2 read, 3 write, 4 add, 5 sub, 6 mul, 7 udiv, 8 sdiv, 9 urem, 10 sll, 11 srl, 12 ult, 13 uext, 14 ite, 15 eq,
+//       16 and, 17 or, 18 not, 19 state, 20 next, 21 input, 22 bad
+//     byte 1 sort: 1 bit, 2 word of 64 bits, 3 memory, 11 to 17 an input of 1 to 7 bytes; the sort that uext extends from
+//     byte 2 of a state, an input and a bad the name's area: 0 no name, 1 the host's, 2 ours
+//     byte 3 of a state not 0 where it has an init
+//     bytes 4 to 7 identifier
+//   1 first operand, as a place; the init of a state; the value of a const
+//   2 3 second and third operand, as places; of a state, an input and a bad, which have none, the name's first byte in its area and its length
 // NAMES: bytes of our area: the names of the bad lines that a lowering appends, at most 33 bytes each.
 // EDGES: an edge is 4 words: address to, address from, origin (0 regular, 1 branch, 2 syscall), place of the condition or UINT64_MAX.
 // DISPATCHES: a dispatch is 2 words: register, address from.
@@ -42,7 +42,11 @@
 extern "C" {
 #endif
 
-enum { LANTHANUMBAT_LINE = 8, LANTHANUMBAT_EDGE = 4, LANTHANUMBAT_DISPATCH = 2, LANTHANUMBAT_STATE = 85, LANTHANUMBAT_CALL = 7, LANTHANUMBAT_MOST_LINES = 1048576 };
+enum { LANTHANUMBAT_LINE = 4, LANTHANUMBAT_EDGE = 4, LANTHANUMBAT_DISPATCH = 2, LANTHANUMBAT_STATE = 85, LANTHANUMBAT_CALL = 7, LANTHANUMBAT_MOST_LINES = 1048576 };
+
+// The first word of a line.
+#define LANTHANUMBAT_HEAD(identifier, kind, sort, area, init) \
+    ((uint64_t)(identifier) << 32 | (uint64_t)(init) << 24 | (uint64_t)(area) << 16 | (uint64_t)(sort) << 8 | (uint64_t)(kind))
 
 // Lowers one instruction. Refusals 9, 13, 1 to 8. An instruction appends at most 37 lines, 2 edges, a dispatch, or a bad and its name.
 //   address         of the instruction
@@ -66,7 +70,7 @@ size_t lanthanumbat_lower_all(uint64_t *list, size_t list_words, uint8_t *names,
 
 // Prints a run of lines as BTOR2 at the output's start. Refusals 9, 11 (both over the whole list), 14.
 //   lines           how many lines the list has
-//   host, ours      the areas of the names, as 1 and 2 in a named line's word 4
+//   host, ours      the areas of the names, as 1 and 2 in a named line's first word
 //   from, count     the first place of the run, and how many lines it has
 //   written         is set to the bytes of the text, 0 where the call is refused
 // It is fastest with an output of 53 bytes for each line of the run, and for each line of the list that has a name its length and 10 more.

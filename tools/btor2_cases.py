@@ -40,10 +40,14 @@ def commands():
 
     def put(place, *fields):
         if place < HOLDS:
-            nid, kind, sort, op1, *others, imm, area, at, length = fields
-            # a State, an Input and a Bad have a name and no second and third operand; both stand in the same words
-            shared = [area, at] if 1 <= kind <= len(KINDS) and KINDS[kind - 1] in NAMED else others
-            records[place] = [nid, kind, sort, op1, *shared, imm, *shared, length]
+            nid, kind, sort, op1, op2, op3, imm, area, at, length = fields
+            name = KINDS[kind - 1] if 1 <= kind <= len(KINDS) else None
+            # the value of a Const, and the place and the length of a name, stand where other lines have operands; kind, sort, area and
+            # the mark of a State's init have a byte each, and the identifier has four
+            first = imm if name == "Const" else op1
+            others = [at, length] if name in NAMED else [op2, op3]
+            mark = imm % 256 if name == "State" else 0
+            records[place] = [nid % 2**32, kind % 256, sort % 256, first, *others, mark if kind % 256 == 19 else first, area % 256, *others]
         return (1, place, *fields), "put" if place < HOLDS else "outside"
 
     def get(place):
@@ -62,7 +66,7 @@ def commands():
 
     yield get(0)
     yield look(1, 0)
-    for place in (3, 0, 2, 4, 5, TOP // 8, TOP):  # the last one that fits, and past it; all words as large as can be
+    for place in (3, 0, 2, 4, 5, TOP // 4, TOP):  # the last one that fits, and past it; all words as large as can be
         yield put(place, *(TOP - i for i in range(10)))
         yield get(place)
         for other in range(HOLDS):

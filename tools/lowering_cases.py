@@ -88,9 +88,11 @@ class Batch:
             imm, operands = int(operands[0]), []
         if operator == "uext":  # printed with the bits that it adds; the record has the sort that it extends
             sort, operands = SORT_OF_WIDTH[64 - int(operands[1])], operands[:1]
-        op1, *others = [self.place(o) for o in operands] + [0] * (3 - len(operands))
-        shared = name[:2] if operator == "bad" else others  # a name's area and place stand where other lines have operands
-        numbers = (self.nid, kind, sort, op1, *shared, imm, *shared, name[2])
+        first, *others = [self.place(o) for o in operands] + [0] * (3 - len(operands))
+        # a constant, and the place and the length of a name, stand where other lines have operands
+        first = imm if operator == "constd" else first
+        others = name[1:] if operator == "bad" else others
+        numbers = (self.nid, kind, sort, first, *others, first, name[0], *others)
         self.lines += 1
         self.nid += 1
         self.rust += 1

@@ -180,6 +180,8 @@ def drawn(seed):
     while len(lines) < 40:
         kind = draw.choice(KINDS)
         imm = draw.choice((0, 1, 10**draw.randrange(20), draw.randrange(2**64)))
+        if kind == "State":
+            imm %= 256  # the mark of an init has one byte
         if operands(kind, imm) and not values:
             continue
         sort = draw.choice([s for s in SORTS if not (kind == "Ext" and s == 3)] if kind in OWN_SORT else (0, 5, draw.randrange(2**64)))

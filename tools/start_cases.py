@@ -31,8 +31,9 @@ ROLE_SORTS = (
 )
 assert len(ROLE_SORTS) == 79
 
-# What the program has: words of the list, and the most that it lends of the rest.
-WORDS, AREA, NUMBERS = 480, 64, 64
+# The words of a record. What the program has: words of the list, and the most that it lends of the rest.
+RECORD = 4
+WORDS, AREA, NUMBERS = 60 * RECORD, 64, 64
 
 
 class Line:
@@ -41,7 +42,10 @@ class Line:
     def __init__(self, kind, nid, sort=0, operands=(), imm=0, name=(0, 0, 0)):
         number = KIND[kind] if isinstance(kind, str) else kind
         ops = (*operands, 0, 0, 0)[:3]
-        self.words = (nid, number, sort, *ops, imm, *name)
+        self.given = (nid, number, sort, *ops, imm, *name)
+        # the record has four bytes for the identifier, and one each for the kind, the sort, the mark of a State's init and the area of a name
+        area, *part = name
+        self.words = (nid % 2**32, number % 256, sort % 256, *ops, imm % 256 if number == KIND["State"] else imm, area % 256, *part)
 
     @property
     def nid(self):
@@ -114,7 +118,7 @@ def counts_out(s):
     return (
         s.lines > 1048576
         or s.next > 2**31
-        or s.lines > s.words // 8
+        or s.lines > s.words // RECORD
         or s.names > s.area
         or s.edges > s.edge_words // 4
         or s.dispatches > s.dispatch_words // 2
@@ -240,8 +244,8 @@ def accepted():
     yield small(nids=(8, 9, 10), next_nid=18)
     yield small(nids=(10, 18, 19))
     yield small(nids=(4, 10, 2**31 - 1))
-    yield listing(words=312)
-    yield listing(words=319)
+    yield listing(words=39 * RECORD)
+    yield listing(words=40 * RECORD - 1)
     yield listing(area=0, edge_words=0, dispatch_words=0, bad_words=0)
     yield small(names=16, edges=2, dispatches=2, bads=2)
     yield small(edge_words=7, edges=1)
@@ -273,7 +277,7 @@ def refused_9():
     yield small(lines=1048577)
     yield small(lines=TOP)
     yield small(lines=61)
-    yield listing(words=311)
+    yield listing(words=39 * RECORD - 1)
     yield listing(words=0)
     for count in (17, TOP):
         yield small(names=count)
@@ -437,7 +441,7 @@ def drawn(seed, count):
         if seldom():
             s.roles[draw.randrange(79)] = draw.randrange(s.lines)
         if seldom():
-            s.words = 8 * draw.randrange(8, 18)
+            s.words = RECORD * draw.randrange(8, 18)
         yield s
 
 
@@ -463,11 +467,11 @@ def commands():
     records, counts, roles = {}, None, [0] * 79
     for s in cases():
         for place, line in enumerate(s.stored):
-            if records.get(place, (0,) * 10) != line.words:
-                records[place] = line.words
-                yield (1, place, *line.words), None
+            if records.get(place, (0,) * 10) != line.given:
+                records[place] = line.given
+                yield (1, place, *line.given), None
         # What stands behind a start's records is left by those before it: `Start.line` reads 0 there, so no count may reach it.
-        for place in range(len(s.stored), min(s.lines, WORDS // 10)):
+        for place in range(len(s.stored), min(s.lines, WORDS // RECORD)):
             if records.get(place, (0,) * 10) != (0,) * 10:
                 records[place] = (0,) * 10
                 yield (1, place, *(0,) * 10), None

@@ -36,3 +36,15 @@ width-small Input4Byte = lit≤ tt
 width-small Input5Byte = lit≤ tt
 width-small Input6Byte = lit≤ tt
 width-small Input7Byte = lit≤ tt
+
+pub number-small : (s : NodeType) → sortNumber s ≤ 17
+number-small Bit = lit≤ tt
+number-small Word = lit≤ tt
+number-small Memory = lit≤ tt
+number-small Input1Byte = lit≤ tt
+number-small Input2Byte = lit≤ tt
+number-small Input3Byte = lit≤ tt
+number-small Input4Byte = lit≤ tt
+number-small Input5Byte = lit≤ tt
+number-small Input6Byte = lit≤ tt
+number-small Input7Byte = lit≤ tt

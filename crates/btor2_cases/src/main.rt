@@ -17,7 +17,7 @@ use libc::STDOUT_FILENO;
 fn main() {
     let mut buffer = [0u8; 65536];
     let n = io::read_full(STDIN_FILENO, &mut buffer);
-    let mut list = [0u64; 35];
+    let mut list = [0u64; 19];
     run(&buffer[..n], &mut list);
 }
 

@@ -1,4 +1,5 @@
 pub mod Carried
 pub mod Stored
 pub mod View
+pub mod Fitting
 pub mod Seen

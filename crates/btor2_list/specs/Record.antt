@@ -1,5 +1,5 @@
--- The lent words: records of eight words, one behind the other.
-use Prim.Native.Nat.{ℕ, _+_, _*_, _/_}
+-- The lent words: records of four words, one behind the other.
+use Prim.Native.Nat.{ℕ, _+_, _*_, _/_, _%_}
 use mathlib.Core.Bool.{Bool, cond, _||_}
 use mathlib.Core.List.{List, [], _∷_}
 use lib.Dec.{ltb, eqb}
@@ -11,23 +11,41 @@ use Rattle.btor2_list.specs.declared.Found.the-variants.{Line as at, Out
 
 -- the words of one record
 abbrev pub stride : ℕ
-stride = 8
+stride = 4
 
--- the lines that have a name: State, Input and Bad. They have no second and third operand, so that name and operands share two words.
+-- ---- the first word: a byte each for the kind, the sort, the name's area and the mark of a State's init, and four bytes for the identifier
+
+abbrev pub kindIn : ℕ → ℕ
+kindIn head = head % 256
+
+abbrev pub sortIn : ℕ → ℕ
+sortIn head = head / 256 % 256
+
+abbrev pub areaIn : ℕ → ℕ
+areaIn head = head / 65536 % 256
+
+abbrev pub initIn : ℕ → ℕ
+initIn head = head / 16777216 % 256
+
+abbrev pub nidIn : ℕ → ℕ
+nidIn head = head / 4294967296
+
+-- of a number that is too large for its field the upper bytes are dropped
+abbrev pub headOf : ℕ → ℕ → ℕ → ℕ → ℕ → ℕ
+headOf kind sort area init nid = kind % 256 + 256 * (sort % 256) + 65536 * (area % 256) + 16777216 * (init % 256) + 4294967296 * (nid % 4294967296)
+
+-- ---- the other words: operands. A Const has none, and its value stands in the first's place; State, Input and Bad have no second and third,
+-- and the place and the length of their name stand there.
+
 abbrev pub named : ℕ → Bool
 named kind = eqb kind 19 || (eqb kind 21 || eqb kind 22)
 
--- the fields of a record, in the order of their words
 abbrev pub words : Line → List ℕ
 words l =
-    l .nid .0
-    ∷ l .kind
-    ∷ l .sort
-    ∷ l .op1 .0
-    ∷ cond (named (l .kind)) (l .name .area) (l .op2 .0)
-    ∷ cond (named (l .kind)) (l .name .at) (l .op3 .0)
-    ∷ l .imm
-    ∷ l .name .len
+    headOf (l .kind) (l .sort) (l .name .area) (cond (eqb (l .kind) 19) (l .imm) 0) (l .nid .0)
+    ∷ cond (eqb (l .kind) 1) (l .imm) (l .op1 .0)
+    ∷ cond (named (l .kind)) (l .name .at) (l .op2 .0)
+    ∷ cond (named (l .kind)) (l .name .len) (l .op3 .0)
     ∷ []
 
 -- word k of the record whose first word is word b, and that record
@@ -36,14 +54,14 @@ word ws b k = getD ws (b + k) 0
 
 unfoldable pub lineAt : List ℕ → ℕ → Line
 lineAt ws b = record {
-  nid = record { 0 = word ws b 0 };
-  kind = word ws b 1;
-  sort = word ws b 2;
-  op1 = record { 0 = word ws b 3 };
-  op2 = record { 0 = word ws b 4 };
-  op3 = record { 0 = word ws b 5 };
-  imm = word ws b 6;
-  name = record { area = word ws b 4; at = word ws b 5; len = word ws b 7 };
+  nid = record { 0 = nidIn (word ws b 0) };
+  kind = kindIn (word ws b 0);
+  sort = sortIn (word ws b 0);
+  op1 = record { 0 = word ws b 1 };
+  op2 = record { 0 = word ws b 2 };
+  op3 = record { 0 = word ws b 3 };
+  imm = cond (eqb (kindIn (word ws b 0)) 19) (initIn (word ws b 0)) (word ws b 1);
+  name = record { area = areaIn (word ws b 0); at = word ws b 2; len = word ws b 3 };
 }
 
 -- the words reach over the record at place p

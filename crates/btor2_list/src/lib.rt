@@ -6,39 +6,43 @@ use btor2::NodeRef;
 use btor2::NodeType;
 use btor2::sort_of;
 ghost use mathlib.Core.Path.{_≡_};
+ghost use mathlib.Core.Bool.{cond};
 ghost use Prim.Native.Nat.{_+_, _≤_};
-ghost use mathlib.Core.List.{[], _∷_};
 ghost use lib.ListN.{length};
 ghost use lib.Seq.{sets};
 ghost use Rattle.btor2.specs.Op.{carried};
 ghost use Rattle.btor2_list.specs.declared.Line.{Line};
-ghost use Rattle.btor2_list.specs.Record.{named, words, lineAt, holds, putAt, getAt};
+ghost use Rattle.btor2_list.specs.Record.{headOf, named, words, lineAt, holds, putAt, getAt};
 ghost use Rattle.btor2_list.specs.Node.{opOf};
 ghost use Rattle.btor2_list.specs.Look.{lookAt};
 
-// The words of one record, and where each field stands in it.
-pub const STRIDE: usize = 8;
+// The words of one record, and where each stands in it. A Const's value stands in the first operand's place.
+pub const STRIDE: usize = 4;
 
-pub const AT_NID: usize = 0;
+pub const AT_HEAD: usize = 0;
 
-pub const AT_KIND: usize = 1;
+pub const AT_OP1: usize = 1;
 
-pub const AT_SORT: usize = 2;
+pub const AT_OP2: usize = 2;
 
-pub const AT_OP1: usize = 3;
+pub const AT_OP3: usize = 3;
 
-pub const AT_OP2: usize = 4;
+// A named line has no second and third operand: the place and the length of its name stand there.
+pub const AT_NAME_AT: usize = 2;
 
-pub const AT_OP3: usize = 5;
+pub const AT_NAME_LEN: usize = 3;
 
-pub const AT_IMM: usize = 6;
+// The fields of the first word: of h, h % BYTE is the kind, h / SORT_UNIT % BYTE the sort, h / AREA_UNIT % BYTE the name's area,
+// h / INIT_UNIT % BYTE the mark of a State's init, and h / NID_UNIT the identifier.
+pub const BYTE: u64 = 256;
 
-// A named line has no second and third operand: its name stands there.
-pub const AT_NAME_AREA: usize = 4;
+pub const SORT_UNIT: u64 = 256;
 
-pub const AT_NAME_AT: usize = 5;
+pub const AREA_UNIT: u64 = 65536;
 
-pub const AT_NAME_LEN: usize = 7;
+pub const INIT_UNIT: u64 = 16777216;
+
+pub const NID_UNIT: u64 = 4294967296;
 
 // The kinds of a record, in the order of unicorn's `Node`.
 pub const CONST: u64 = 1;
@@ -86,7 +90,7 @@ pub const INPUT: u64 = 21;
 pub const BAD: u64 = 22;
 
 // The record of a line. Operands stand in printed order; a State's init is op1, and there where imm is not 0. A field that a kind does
-// not use is not looked at, and is 0 where we write the record.
+// not use is not looked at; where we write the record it is 0.
 pub struct Line {
     pub nid: Nid,
     pub kind: u64,
@@ -125,40 +129,38 @@ pub fn put(list: &mut [u64], place: NodeRef, line: Line) -> bool
 }
 
 fn store(list: &mut [u64], at: usize, line: Line)
-    requires { ⌜ at + 8 ≤ length (now list) ⌝ }
+    requires { ⌜ at + 4 ≤ length (now list) ⌝ }
     ensures { λ _. ⌜ now (list .exit) ≡ sets (now (list .entry)) at (words line) ⌝ }
 {
-    let a = line.op1.0 as u64;
+    let kind = line.kind;
+    let imm = line.imm;
     let name = line.name;
-    if is_named(line.kind) {
-        store_words(
-            list,
-            at,
-            line.nid.0,
-            line.kind,
-            line.sort,
-            a,
-            name.area,
-            name.at,
-            line.imm,
-            name.len,
-        );
-        return;
-    }
+    let init = either(kind == STATE, imm, 0);
+    let named = is_named(kind);
+    let a = line.op1.0 as u64;
     let b = line.op2.0 as u64;
     let c = line.op3.0 as u64;
-    store_words(
-        list,
-        at,
-        line.nid.0,
-        line.kind,
-        line.sort,
-        a,
-        b,
-        c,
-        line.imm,
-        name.len,
-    );
+    list[at + AT_HEAD] = head_of(kind, line.sort, name.area, init, line.nid.0);
+    list[at + AT_OP1] = either(kind == CONST, imm, a);
+    list[at + AT_OP2] = either(named, name.at, b);
+    list[at + AT_OP3] = either(named, name.len, c);
+}
+
+fn either(test: bool, a: u64, b: u64) -> u64
+    ensures { λ r. ⌜ r ≡ cond test a b ⌝ }
+{
+    if test { a } else { b }
+}
+
+// The first word of a record. Of a number that is too large for its field the upper bytes are dropped; none that the builder writes is.
+fn head_of(kind: u64, sort: u64, area: u64, init: u64, nid: u64) -> u64
+    ensures { λ r. ⌜ r ≡ headOf kind sort area init nid ⌝ }
+{
+    kind % BYTE
+        + SORT_UNIT * (sort % BYTE)
+        + AREA_UNIT * (area % BYTE)
+        + INIT_UNIT * (init % BYTE)
+        + NID_UNIT * (nid % NID_UNIT)
 }
 
 // Whether lines of a kind have a name.
@@ -177,31 +179,6 @@ fn is_named(kind: u64) -> bool
     false
 }
 
-fn store_words(
-    list: &mut [u64],
-    at: usize,
-    nid: u64,
-    kind: u64,
-    sort: u64,
-    op1: u64,
-    second: u64,
-    third: u64,
-    imm: u64,
-    len: u64,
-)
-    requires { ⌜ at + 8 ≤ length (now list) ⌝ }
-    ensures { λ _. ⌜ now (list .exit) ≡ sets (now (list .entry)) at (nid ∷ kind ∷ sort ∷ op1 ∷ second ∷ third ∷ imm ∷ len ∷ []) ⌝ }
-{
-    list[at + AT_NID] = nid;
-    list[at + AT_KIND] = kind;
-    list[at + AT_SORT] = sort;
-    list[at + AT_OP1] = op1;
-    list[at + AT_OP2] = second;
-    list[at + AT_OP3] = third;
-    list[at + AT_IMM] = imm;
-    list[at + AT_NAME_LEN] = len;
-}
-
 // The record at a place.
 pub fn get(list: &[u64], place: NodeRef) -> Found
     ensures { λ r. ⌜ r ≡ getAt (now (list .entry)) (place .0) ⌝ }
@@ -214,21 +191,27 @@ pub fn get(list: &[u64], place: NodeRef) -> Found
 }
 
 fn fetch(list: &[u64], at: usize) -> Line
-    requires { ⌜ at + 8 ≤ length (now list) ⌝ }
+    requires { ⌜ at + 4 ≤ length (now list) ⌝ }
     ensures { λ r. ⌜ r ≡ lineAt (now (list .entry)) at ⌝ }
 {
+    let head = list[at + AT_HEAD];
+    let a = list[at + AT_OP1];
+    let b = list[at + AT_OP2];
+    let c = list[at + AT_OP3];
+    let kind = head % BYTE;
+    let init = head / INIT_UNIT % BYTE;
     Line {
-        nid: Nid(list[at + AT_NID]),
-        kind: list[at + AT_KIND],
-        sort: list[at + AT_SORT],
-        op1: NodeRef(list[at + AT_OP1] as usize),
-        op2: NodeRef(list[at + AT_OP2] as usize),
-        op3: NodeRef(list[at + AT_OP3] as usize),
-        imm: list[at + AT_IMM],
+        nid: Nid(head / NID_UNIT),
+        kind,
+        sort: head / SORT_UNIT % BYTE,
+        op1: NodeRef(a as usize),
+        op2: NodeRef(b as usize),
+        op3: NodeRef(c as usize),
+        imm: either(kind == STATE, init, a),
         name: Name {
-            area: list[at + AT_NAME_AREA],
-            at: list[at + AT_NAME_AT],
-            len: list[at + AT_NAME_LEN],
+            area: head / AREA_UNIT % BYTE,
+            at: b,
+            len: c,
         },
     }
 }
@@ -245,10 +228,9 @@ pub fn look(list: &[u64], lines: usize, place: NodeRef) -> Looked
         return Looked::Outside;
     }
     let at = p * STRIDE;
-    let nid = list[at + AT_NID];
-    let kind = list[at + AT_KIND];
-    let sort = list[at + AT_SORT];
-    match carries(kind, sort) {
+    let head = list[at + AT_HEAD];
+    let nid = head / NID_UNIT;
+    match carries(head % BYTE, head / SORT_UNIT % BYTE) {
         MaybeSort::Sort(s) => Looked::Value(Nid(nid), s),
         MaybeSort::NoSort => Looked::NoValue(Nid(nid)),
     }

@@ -10,7 +10,7 @@ use borrow.Author.Tests.{lt-ltb, le-ltb}
 use Rattle.btor2.specs.Op.{unknown}
 use Rattle.btor2_list.specs.declared.Line.{Line}
 use Rattle.btor2_list.specs.declared.Found.the-variants.{Line as found, Outside as Outside′}
-use Rattle.btor2_list.specs.Record.{stride, lineAt, getAt}
+use Rattle.btor2_list.specs.Record.{stride, nidIn, lineAt, getAt}
 use Rattle.btor2_list.specs.Node.{Node, node, nodeOf}
 use Rattle.btor2_list.proofs.View.{view-length, view-at}
 use Rattle.line_text.specs.Line.{nodes, nodeAt, nidAt}
@@ -31,7 +31,7 @@ module _ (ws : List ℕ) (n p : ℕ) where
   pub nid-outside : length (nodes ws n) ≤ p → nidAt (nodes ws n) p ≡ 0
   nid-outside h = nid (outside h)
 
-  pub nid-inside : p < n → p < length ws / stride → getD ws (p * stride) 0 ≡ nidAt (nodes ws n) p
+  pub nid-inside : p < n → p < length ws / stride → nidIn (getD ws (p * stride) 0) ≡ nidAt (nodes ws n) p
   unfolding lineAt
   nid-inside h k = sym (nid (inside h k) ∙ rw add-zero)
 

@@ -19,7 +19,7 @@ pub fn nid_at(list: &[u64], lines: usize, place: NodeRef) -> Nid
     if list.len() / btor2_list::STRIDE <= p {
         return Nid(0);
     }
-    Nid(list[p * btor2_list::STRIDE])
+    Nid(list[p * btor2_list::STRIDE] / btor2_list::NID_UNIT)
 }
 
 // A record of the list.

@@ -80,3 +80,10 @@ module _ (host ours : ℕ) (out : ℕ → Bool) (l : Line) where
       (either 18 _ _ (λ e. one)
       (either 19 _ _ (λ e. absurd (no-state e))
       (either 20 _ _ (λ e. two) (λ h. absurd (omega arith))))))))))))))))))))) from)
+
+  -- a Const has no operand
+  pub plain-const : l .kind ≡ 1 → Known (l .sort) → Formed (opOf l)
+  unfolding opOf opUnformed
+  plain-const e (s, is) =
+      let sort : sortNumbered (l .sort) ≡ Sort s = ap sortNumbered is ∙ sort-back s in
+      rw (e, sort)

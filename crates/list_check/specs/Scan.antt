@@ -4,13 +4,13 @@ use Prim.Native.Nat.{ℕ, _*_}
 use mathlib.Core.Bool.{Bool, true, cond, _||_}
 use mathlib.Core.List.{List}
 use lib.Dec.{eqb, leb}
-use Rattle.btor2_list.specs.Record.{stride, word, lineAt, holds}
+use Rattle.btor2_list.specs.Record.{stride, kindIn, word, lineAt, holds}
 use Rattle.btor2_list.specs.Node.{opOf}
 use Rattle.list_check.specs.Formed.{opUnformed}
 
 -- place q is that of no line before line i, or of a Next (20) or a Bad (22)
 abbrev pub outBefore : List ℕ → ℕ → ℕ → Bool
-outBefore ws i q = leb i q || (eqb (word ws (q * stride) 1) 20 || eqb (word ws (q * stride) 1) 22)
+outBefore ws i q = leb i q || (eqb (kindIn (word ws (q * stride) 0)) 20 || eqb (kindIn (word ws (q * stride) 0)) 22)
 
 -- 11, of line i; or the words do not hold it
 abbrev pub scanUnformed : List ℕ → ℕ → ℕ → ℕ → Bool

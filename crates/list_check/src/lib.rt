@@ -5,21 +5,21 @@ use btor2::get_sort;
 use btor2::sort_of;
 use btor2_list::ADD;
 use btor2_list::AND;
-use btor2_list::AT_IMM;
-use btor2_list::AT_KIND;
-use btor2_list::AT_NAME_AREA;
+use btor2_list::AREA_UNIT;
+use btor2_list::AT_HEAD;
 use btor2_list::AT_NAME_AT;
 use btor2_list::AT_NAME_LEN;
 use btor2_list::AT_OP1;
 use btor2_list::AT_OP2;
 use btor2_list::AT_OP3;
-use btor2_list::AT_SORT;
 use btor2_list::BAD;
+use btor2_list::BYTE;
 use btor2_list::CONST;
 use btor2_list::DIV;
 use btor2_list::DIVU;
 use btor2_list::EQ;
 use btor2_list::EXT;
+use btor2_list::INIT_UNIT;
 use btor2_list::INPUT;
 use btor2_list::ITE;
 use btor2_list::MUL;
@@ -29,6 +29,7 @@ use btor2_list::OR;
 use btor2_list::READ;
 use btor2_list::REM;
 use btor2_list::SLL;
+use btor2_list::SORT_UNIT;
 use btor2_list::SRL;
 use btor2_list::STATE;
 use btor2_list::STRIDE;
@@ -44,7 +45,7 @@ ghost use mathlib.Core.List.{[], _∷_};
 ghost use Prim.Native.Nat.{ℕ, _+_, _*_, _/_, _≤_, _<_};
 ghost use lib.ListN.{length};
 ghost use Rattle.btor2.specs.Sort.{sortNumber, sortNumbered};
-ghost use Rattle.btor2_list.specs.Record.{stride, word, lineAt};
+ghost use Rattle.btor2_list.specs.Record.{stride, kindIn, sortIn, initIn, word, lineAt};
 ghost use Rattle.btor2_list.specs.Node.{opOf};
 ghost use Rattle.list_check.specs.Lines.{any};
 ghost use Rattle.list_check.specs.Formed.{nameOutside, hasValue, opUnformed, unformedWords};
@@ -84,7 +85,7 @@ pub fn line_unformed(list: &[u64], i: usize, host: usize, ours: usize) -> bool
 // Line i alone. In a long list the jump of a match on the kind is guessed wrongly for most lines, so that a test which nearly all of them
 // pass stands in front of it.
 fn record_unformed(list: &[u64], i: usize, host: usize, ours: usize) -> bool
-    requires { ⌜ i < length (now list) / 8 ⌝ }
+    requires { ⌜ i < length (now list) / 4 ⌝ }
     ensures { λ r. ⌜ r ≡ opUnformed host ours (outBefore (now (list .entry)) i) (opOf (lineAt (now (list .entry)) (i * stride))) ⌝ }
 {
     if plainly_formed(list, i) {
@@ -93,16 +94,17 @@ fn record_unformed(list: &[u64], i: usize, host: usize, ours: usize) -> bool
     unformed_by_kind(list, i, host, ours)
 }
 
-// Line i is surely well formed: a kind without a name, a known sort, no Ext from Memory, and none of the three operands out, whether or not
-// the kind uses these fields. In a list that the builder wrote an unused operand is 0, an earlier value line, so that each branch nearly
-// always goes the same way.
+// Line i is surely well formed: a kind without a name, a known sort, and a Const, or no Ext from Memory and none of the three operands out,
+// whether or not the kind uses these fields. In a list that the builder wrote an unused operand is 0, an earlier value line, so that each
+// branch nearly always goes the same way.
 fn plainly_formed(list: &[u64], i: usize) -> bool
-    requires { ⌜ i < length (now list) / 8 ⌝ }
+    requires { ⌜ i < length (now list) / 4 ⌝ }
     ensures { λ r. ⌜ (r ≡ true → (host ours : ℕ) → opUnformed host ours (outBefore (now (list .entry)) i) (opOf (lineAt (now (list .entry)) (i * stride))) ≡ false) ⌝ }
 {
     let at = i * STRIDE;
-    let kind = list[at + AT_KIND];
-    let sort = list[at + AT_SORT];
+    let head = list[at + AT_HEAD];
+    let kind = head % BYTE;
+    let sort = head / SORT_UNIT % BYTE;
     if kind < CONST {
         return false;
     }
@@ -114,6 +116,9 @@ fn plainly_formed(list: &[u64], i: usize) -> bool
     }
     if !known_sort(sort) {
         return false;
+    }
+    if kind == CONST {
+        return true;
     }
     if kind * 32 + sort == EXT_FROM_MEMORY {
         return false;
@@ -133,11 +138,11 @@ fn known_sort(number: u64) -> bool
 
 // By a match on the kind: the fields that it uses.
 fn unformed_by_kind(list: &[u64], i: usize, host: usize, ours: usize) -> bool
-    requires { ⌜ i < length (now list) / 8 ⌝ }
+    requires { ⌜ i < length (now list) / 4 ⌝ }
     ensures { λ r. ⌜ r ≡ opUnformed host ours (outBefore (now (list .entry)) i) (opOf (lineAt (now (list .entry)) (i * stride))) ⌝ }
 {
     let at = i * STRIDE;
-    let kind = list[at + AT_KIND];
+    let kind = list[at + AT_HEAD] % BYTE;
     match kind {
         CONST => no_sort(list, i),
         READ => two_out(list, i),
@@ -167,37 +172,38 @@ fn unformed_by_kind(list: &[u64], i: usize, host: usize, ours: usize) -> bool
 
 // An Ext: the sort that it extends from is unknown or Memory, or its operand is out.
 fn extended_out(list: &[u64], i: usize) -> bool
-    requires { ⌜ i < length (now list) / 8 ⌝ }
-    ensures { λ r. ⌜ ((host ours : ℕ) → word (now (list .entry)) (i * stride) 1 ≡ 13 → r ≡ opUnformed host ours (outBefore (now (list .entry)) i) (opOf (lineAt (now (list .entry)) (i * stride)))) ⌝ }
+    requires { ⌜ i < length (now list) / 4 ⌝ }
+    ensures { λ r. ⌜ ((host ours : ℕ) → kindIn (word (now (list .entry)) (i * stride) 0) ≡ 13 → r ≡ opUnformed host ours (outBefore (now (list .entry)) i) (opOf (lineAt (now (list .entry)) (i * stride)))) ⌝ }
 {
     let at = i * STRIDE;
-    let MaybeSort::Sort(from) = sort_of(list[at + AT_SORT]) else {
+    let MaybeSort::Sort(from) = sort_of(list[at + AT_HEAD] / SORT_UNIT % BYTE) else {
         return true;
     };
     get_sort(from) == get_sort(NodeType::Memory) || operand_out(list, i, AT_OP1)
 }
 
-// A State has an operand where the constant is not 0.
+// A State has an operand where its mark is not 0.
 fn state_out(list: &[u64], i: usize, host: usize, ours: usize) -> bool
-    requires { ⌜ i < length (now list) / 8 ⌝ }
-    ensures { λ r. ⌜ r ≡ (nameOutside host ours (lineAt (now (list .entry)) (i * stride) .name) || (not (eqb (word (now (list .entry)) (i * stride) 6) 0) && outAt (now (list .entry)) i 3)) ⌝ }
+    requires { ⌜ i < length (now list) / 4 ⌝ }
+    ensures { λ r. ⌜ r ≡ (nameOutside host ours (lineAt (now (list .entry)) (i * stride) .name) || (not (eqb (initIn (word (now (list .entry)) (i * stride) 0)) 0) && outAt (now (list .entry)) i 1)) ⌝ }
 {
     let at = i * STRIDE;
-    name_out(list, i, host, ours) || (list[at + AT_IMM] != 0 && operand_out(list, i, AT_OP1))
+    name_out(list, i, host, ours)
+        || (list[at + AT_HEAD] / INIT_UNIT % BYTE != 0 && operand_out(list, i, AT_OP1))
 }
 
 // Its first two operands.
 fn two_out(list: &[u64], i: usize) -> bool
-    requires { ⌜ i < length (now list) / 8 ⌝ }
-    ensures { λ r. ⌜ r ≡ any (outAt (now (list .entry)) i) (3 ∷ 4 ∷ []) ⌝ }
+    requires { ⌜ i < length (now list) / 4 ⌝ }
+    ensures { λ r. ⌜ r ≡ any (outAt (now (list .entry)) i) (1 ∷ 2 ∷ []) ⌝ }
 {
     operand_out(list, i, AT_OP1) || operand_out(list, i, AT_OP2)
 }
 
 // All three.
 fn three_out(list: &[u64], i: usize) -> bool
-    requires { ⌜ i < length (now list) / 8 ⌝ }
-    ensures { λ r. ⌜ r ≡ any (outAt (now (list .entry)) i) (3 ∷ 4 ∷ 5 ∷ []) ⌝ }
+    requires { ⌜ i < length (now list) / 4 ⌝ }
+    ensures { λ r. ⌜ r ≡ any (outAt (now (list .entry)) i) (1 ∷ 2 ∷ 3 ∷ []) ⌝ }
 {
     operand_out(list, i, AT_OP1) || (operand_out(list, i, AT_OP2) || operand_out(list, i, AT_OP3))
 }
@@ -205,7 +211,7 @@ fn three_out(list: &[u64], i: usize) -> bool
 // The operand at word k is out: not the place of a value line before line i. Of lines of a known kind and sort only Next and Bad carry no
 // value, so that no sort is looked at.
 fn operand_out(list: &[u64], i: usize, k: usize) -> bool
-    requires { ⌜ (i < length (now list) / 8) × (k < 8) ⌝ }
+    requires { ⌜ (i < length (now list) / 4) × (k < 4) ⌝ }
     ensures { λ r. ⌜ r ≡ outAt (now (list .entry)) i k ⌝ }
 {
     let at = i * STRIDE;
@@ -214,17 +220,17 @@ fn operand_out(list: &[u64], i: usize, k: usize) -> bool
         return true;
     }
     let place = q * STRIDE;
-    let kind = list[place + AT_KIND];
+    let kind = list[place + AT_HEAD] % BYTE;
     kind == NEXT || kind == BAD
 }
 
 // Its own sort is unknown.
 fn no_sort(list: &[u64], i: usize) -> bool
-    requires { ⌜ i < length (now list) / 8 ⌝ }
-    ensures { λ r. ⌜ r ≡ not (hasValue (sortNumbered (word (now (list .entry)) (i * stride) 2))) ⌝ }
+    requires { ⌜ i < length (now list) / 4 ⌝ }
+    ensures { λ r. ⌜ r ≡ not (hasValue (sortNumbered (sortIn (word (now (list .entry)) (i * stride) 0)))) ⌝ }
 {
     let at = i * STRIDE;
-    match sort_of(list[at + AT_SORT]) {
+    match sort_of(list[at + AT_HEAD] / SORT_UNIT % BYTE) {
         MaybeSort::Sort(_) => false,
         MaybeSort::NoSort => true,
     }
@@ -232,11 +238,11 @@ fn no_sort(list: &[u64], i: usize) -> bool
 
 // A name that is not missing has all its bytes in its area. A mark that is none of the two areas' and not 0 is outside.
 fn name_out(list: &[u64], i: usize, host: usize, ours: usize) -> bool
-    requires { ⌜ i < length (now list) / 8 ⌝ }
+    requires { ⌜ i < length (now list) / 4 ⌝ }
     ensures { λ r. ⌜ r ≡ nameOutside host ours (lineAt (now (list .entry)) (i * stride) .name) ⌝ }
 {
     let at = i * STRIDE;
-    let area = list[at + AT_NAME_AREA];
+    let area = list[at + AT_HEAD] / AREA_UNIT % BYTE;
     if area == 0 {
         return false;
     }

@@ -32,7 +32,7 @@ use Rattle.listing_laws.proofs.Words.{view-front, roles-front}
 
 -- ---- computed over the start's words alone
 
-whole : length startWords ≡ 312
+whole : length startWords ≡ 156
 unfolding names joined named states startOps records startWords
 whole = refl
 
@@ -58,19 +58,19 @@ roles = refl
 
 -- ---- in words of any length that holds them
 
-module _ (words : List ℕ) (h : 312 ≤ length words) where
-  put : startIn words ≡ startWords ++ drop 312 words
+module _ (words : List ℕ) (h : 156 ≤ length words) where
+  put : startIn words ≡ startWords ++ drop 156 words
   unfolding startIn
-  put = rw (le-ltb (length words) 312 h)
+  put = rw (le-ltb (length words) 156 h)
 
   put-length : length (startIn words) ≡ length words
-  put-length = rw (put, length-append startWords (drop 312 words), whole, length-drop 312 words) (omega arith)
+  put-length = rw (put, length-append startWords (drop 156 words), whole, length-drop 156 words) (omega arith)
 
   lines-put : view (startIn words) 39 ≡ numbered 20 startOps
-  lines-put = rw put (view-front startWords (drop 312 words) 39 (rw whole (lit≤ tt)) ∙ lines)
+  lines-put = rw put (view-front startWords (drop 156 words) 39 (rw whole (lit≤ tt)) ∙ lines)
 
   roles-put : not (rolesFit (startIn words) 39 0 startRoles) ≡ false
-  roles-put = rw put (ap not (roles-front startWords (drop 312 words) 39 (rw whole (lit≤ tt)) 0 startRoles) ∙ roles)
+  roles-put = rw put (ap not (roles-front startWords (drop 156 words) 39 (rw whole (lit≤ tt)) 0 startRoles) ∙ roles)
 
 pub start-lines : StartLines
 start-lines words h = lines-put words h

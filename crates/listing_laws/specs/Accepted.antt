@@ -15,19 +15,19 @@ use Rattle.demand.specs.Demand3.{Records, NoneExcluded, ZeroRegister, Means}
 
 -- its lines are the definition's, under the identifiers 20 to 58
 abbrev pub StartLines : Type 0
-StartLines = (words : List ℕ) → 312 ≤ length words → view (startIn words) 39 ≡ numbered 20 startOps
+StartLines = (words : List ℕ) → 156 ≤ length words → view (startIn words) 39 ≡ numbered 20 startOps
 
 -- none of 9 to 13 applies, whatever the room, where it holds 39 lines
 abbrev pub StartAccepted : Type 0
-StartAccepted = (words : List ℕ) (room : Room) → 312 ≤ length words → 39 ≤ room .lines → startRefusal (startIn words) (length hostArea) room startState ≡ 0
+StartAccepted = (words : List ℕ) (room : Room) → 156 ≤ length words → 39 ≤ room .lines → startRefusal (startIn words) (length hostArea) room startState ≡ 0
 
 abbrev pub listingStart : List ℕ → List ℕ → Held
 listingStart words names = record { list = startIn words; names = names; state = startState }
 
 -- x0's node is 0, which demand 3 asks of the states
 abbrev pub StartZero : Type 0
-StartZero = (words names : List ℕ) (env : Env) → 312 ≤ length words → ZeroRegister env (listingStart words names)
+StartZero = (words names : List ℕ) (env : Env) → 156 ≤ length words → ZeroRegister env (listingStart words names)
 
 abbrev pub StartMeans : Type 0
-StartMeans = (words names : List ℕ) (calls : List Call) → 312 ≤ length words → Records calls → NoneExcluded (listingStart words names) calls
+StartMeans = (words names : List ℕ) (calls : List Call) → 156 ≤ length words → Records calls → NoneExcluded (listingStart words names) calls
     → Means (listingStart words names) calls

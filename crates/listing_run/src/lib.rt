@@ -7,8 +7,8 @@ use listing_step::step;
 use lowering_refusals::State;
 ghost use Prim.Native.Nat.{_≤_};
 
-// 1,024 lines of eight words; a bad line's name has at most 33 bytes, and an instruction at most two edges and one dispatch.
-const LIST: usize = 8192;
+// 1,024 lines of four words; a bad line's name has at most 33 bytes, and an instruction at most two edges and one dispatch.
+const LIST: usize = 4096;
 
 const NAMES: usize = 33792;
 

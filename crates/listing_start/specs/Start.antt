@@ -58,7 +58,7 @@ startWords = records 20 startOps
 
 -- the lent words with the start in front, where they hold it
 unfoldable pub startIn : List ℕ → List ℕ
-startIn ws = cond (ltb (length ws) 312) ws (startWords ++ drop 312 ws)
+startIn ws = cond (ltb (length ws) 156) ws (startWords ++ drop 156 ws)
 
 -- ---- roles
 

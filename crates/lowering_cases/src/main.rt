@@ -24,7 +24,7 @@ use riscv::Instruction;
 fn main() {
     let mut buffer = [0u8; 65536];
     let n = io::read_full(STDIN_FILENO, &mut buffer);
-    let mut list = [0u64; 6400];
+    let mut list = [0u64; 3200];
     let mut names = [0u8; 1024];
     let mut edges = [0u64; 12];
     let mut dispatches = [0u64; 4];

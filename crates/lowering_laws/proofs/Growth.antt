@@ -1,85 +1,122 @@
--- How many lines each kind appends: `lineCount` is the growth of the list, and never over 35. Assumes nothing.
+-- How many lines each kind appends: `lineCount` is the growth of the list, and never over 35. Their names fit the record. Assumes nothing.
 use Prim.Native.Nat.{ℕ, _≤_}
-use mathlib.Core.Path.{_≡_, refl}
-use mathlib.Core.Bool.{Bool, true, false}
+use mathlib.Core.Path.{_≡_, refl, ap}
+use mathlib.Core.Bool.{Bool, true, false, _&&_}
+use mathlib.Core.List.{List, [], _∷_}
 use native.Mathlib.Omega.{arith}
+use lib.Dec.{ltb}
 use lib.ListN.{length}
 use Rattle.btor2.specs.declared.Name.{Name}
+use Rattle.btor2.specs.Op.{Op}
+use Rattle.btor2_list.proofs.Fitting.{areaFits}
+use Rattle.instruction_class.specs.declared.Class.{Class}
+use Rattle.instruction_class.specs.declared.Class.the-variants.{Plain, Access, Addition, Branch, Jump, Indirect, Call}
 use Rattle.instruction_class.specs.Class.{lineCount}
 use Rattle.riscv.specs.Kind.{Kind, Lui, Auipc, Lb, Lh, Lw, Ld, Lbu, Lhu, Sb, Sh, Sw, Sd, Addi, Sltiu, Xori, Ori, Andi, Slli, Srli, Srai, Addiw, Slliw, Srliw, Sraiw, Add, Sub, Sll, Sltu, Srl, Sra, Or, And, Mul, Div, Divu, Remu, Addw, Divw, Subw, Sllw, Mulw, Beq, Bne, Blt, Bge, Bltu, Bgeu, Jal, Jalr, Ecall}
 use Rattle.lowering_laws.proofs.EachKind.{reading}
 use Rattle.models.specs.Places.{Operands, Flows}
+use Rattle.lowering_lines.specs.Lines.{nameFor}
 
-module _ {A : Type 0} (at : ℕ → A) (e : Operands A) (f : Flows A) (r m : A) (imm : ℕ) (name : Name) where
+-- the area of every line's name has one byte
+abbrev pub fitting : {A : Type 0} → List (Op A) → Bool
+fitting [] = true
+fitting (o ∷ os) = areaFits o && fitting os
+
+-- how many lines there are, and whether they fit
+record Told : Type 0 where
+  count : ℕ
+  fit : Bool
+
+abbrev told : {A : Type 0} → List (Op A) → Told
+told os = record { count = length os; fit = fitting os }
+
+module _ {A : Type 0} (at : ℕ → A) (e : Operands A) (f : Flows A) (r m : A) (imm : ℕ) (name : Name) (small : ltb (name .area) 256 ≡ true) where
+  each : (k : Kind) (z d s : Bool) → told (reading at e f r m imm name k z d s .lines) ≡ record { count = lineCount k z d s; fit = true }
+  unfolding reading areaFits
+  each Lui z d s = refl
+  each Auipc z d s = refl
+  each Lb true d s = refl
+  each Lb false d s = refl
+  each Lh true d s = refl
+  each Lh false d s = refl
+  each Lw true d s = refl
+  each Lw false d s = refl
+  each Ld true d s = refl
+  each Ld false d s = refl
+  each Lbu true d s = refl
+  each Lbu false d s = refl
+  each Lhu true d s = refl
+  each Lhu false d s = refl
+  each Sb true d s = refl
+  each Sb false d s = refl
+  each Sh true d s = refl
+  each Sh false d s = refl
+  each Sw true d s = refl
+  each Sw false d s = refl
+  each Sd true d s = refl
+  each Sd false d s = refl
+  each Addi z true s = refl
+  each Addi true false s = refl
+  each Addi false false true = refl
+  each Addi false false false = refl
+  each Sltiu z d s = refl
+  each Xori z d s = refl
+  each Ori z d s = refl
+  each Andi z d s = refl
+  each Slli z d s = refl
+  each Srli z d s = refl
+  each Srai z d s = refl
+  each Addiw z d s = refl
+  each Slliw z d s = refl
+  each Srliw z d s = refl
+  each Sraiw z d s = refl
+  each Add z d s = refl
+  each Sub z d s = refl
+  each Sll z d s = refl
+  each Sltu z d s = refl
+  each Srl z d s = refl
+  each Sra z d s = refl
+  each Or z d s = refl
+  each And z d s = refl
+  each Mul z d s = refl
+  each Div z d s = refl
+  each Divu z d s = refl
+  each Remu z d s = refl
+  each Addw z d s = refl
+  each Divw z d s = refl
+  each Subw z d s = refl
+  each Sllw z d s = refl
+  each Mulw z d s = refl
+  each Beq z d s = refl
+  each Bne z d s = refl
+  each Blt z d s = refl
+  each Bge z d s = refl
+  each Bltu z d s = refl
+  each Bgeu z d s = refl
+  each Jal z true s = refl
+  each Jal z false s = refl
+  each Jalr z true true = rw small
+  each Jalr z true false = refl
+  each Jalr z false true = rw small
+  each Jalr z false false = refl
+  each Ecall z d s = refl
+
   pub grows : (k : Kind) (z d s : Bool) → length (reading at e f r m imm name k z d s .lines) ≡ lineCount k z d s
-  unfolding reading
-  grows Lui z d s = refl
-  grows Auipc z d s = refl
-  grows Lb true d s = refl
-  grows Lb false d s = refl
-  grows Lh true d s = refl
-  grows Lh false d s = refl
-  grows Lw true d s = refl
-  grows Lw false d s = refl
-  grows Ld true d s = refl
-  grows Ld false d s = refl
-  grows Lbu true d s = refl
-  grows Lbu false d s = refl
-  grows Lhu true d s = refl
-  grows Lhu false d s = refl
-  grows Sb true d s = refl
-  grows Sb false d s = refl
-  grows Sh true d s = refl
-  grows Sh false d s = refl
-  grows Sw true d s = refl
-  grows Sw false d s = refl
-  grows Sd true d s = refl
-  grows Sd false d s = refl
-  grows Addi z true s = refl
-  grows Addi true false s = refl
-  grows Addi false false true = refl
-  grows Addi false false false = refl
-  grows Sltiu z d s = refl
-  grows Xori z d s = refl
-  grows Ori z d s = refl
-  grows Andi z d s = refl
-  grows Slli z d s = refl
-  grows Srli z d s = refl
-  grows Srai z d s = refl
-  grows Addiw z d s = refl
-  grows Slliw z d s = refl
-  grows Srliw z d s = refl
-  grows Sraiw z d s = refl
-  grows Add z d s = refl
-  grows Sub z d s = refl
-  grows Sll z d s = refl
-  grows Sltu z d s = refl
-  grows Srl z d s = refl
-  grows Sra z d s = refl
-  grows Or z d s = refl
-  grows And z d s = refl
-  grows Mul z d s = refl
-  grows Div z d s = refl
-  grows Divu z d s = refl
-  grows Remu z d s = refl
-  grows Addw z d s = refl
-  grows Divw z d s = refl
-  grows Subw z d s = refl
-  grows Sllw z d s = refl
-  grows Mulw z d s = refl
-  grows Beq z d s = refl
-  grows Bne z d s = refl
-  grows Blt z d s = refl
-  grows Bge z d s = refl
-  grows Bltu z d s = refl
-  grows Bgeu z d s = refl
-  grows Jal z true s = refl
-  grows Jal z false s = refl
-  grows Jalr z true true = refl
-  grows Jalr z true false = refl
-  grows Jalr z false true = refl
-  grows Jalr z false false = refl
-  grows Ecall z d s = refl
+  grows k z d s = ap (λ (t : Told). t .count) (each k z d s)
+
+  pub fits : (k : Kind) (z d s : Bool) → fitting (reading at e f r m imm name k z d s .lines) ≡ true
+  fits k z d s = ap (λ (t : Told). t .fit) (each k z d s)
+
+-- an instruction's name is in our area, or missing
+pub name-fits : (c : Class) (s : Bool) (at pc : ℕ) → ltb (nameFor c s at pc .area) 256 ≡ true
+name-fits Plain s at pc = refl
+name-fits Access s at pc = refl
+name-fits Addition s at pc = refl
+name-fits Branch s at pc = refl
+name-fits Jump s at pc = refl
+name-fits Indirect true at pc = refl
+name-fits Indirect false at pc = refl
+name-fits Call s at pc = refl
 
 pub at-most : (k : Kind) (z d s : Bool) → lineCount k z d s ≤ 35
 at-most Lui z d s = omega arith

@@ -2,7 +2,7 @@
 -- program. Assumes nothing.
 use Prim.Native.Nat.{ℕ, suc, _+_, _*_, _/_, _^_, _≤_, _<_}
 use mathlib.Core.Path.{_≡_, refl, sym, _∙_, ap, subst}
-use mathlib.Core.Bool.{true}
+use mathlib.Core.Bool.{Bool, true, false, _&&_, true≢false}
 use mathlib.Core.List.{List, [], _∷_, _++_, append-assoc, append-nil}
 use native.Mathlib.Omega.{arith}
 use native.Mathlib.Nat.{mod-eq-of-lt}
@@ -14,15 +14,17 @@ use Rattle.btor2_list.specs.Node.{Node, node, lineOf}
 use Rattle.btor2_list.specs.View.{view}
 use Rattle.btor2_list.proofs.Stored.{put-length, put-elsewhere-below, put-elsewhere-above}
 use Rattle.btor2_list.proofs.View.{node-back, view-put}
+use Rattle.btor2_list.proofs.Fitting.{areaFits, line-fits}
 use Rattle.program.specs.Prog.{Prog, done, line, Run, ran, exec}
 use Rattle.builder.specs.declared.Tally.{Tally}
 use Rattle.builder.specs.Append.{Store, at, appendLine, append}
 use Rattle.lowering_laws.specs.Lines.{linesOf, answerOf, behind, numbered}
+use Rattle.lowering_laws.proofs.Growth.{fitting}
 
--- the lent words hold m more lines, and their identifiers are numbers of 64 bits
+-- the lent words hold m more lines, and their identifiers fit the record
 pub record Room (ws : List ℕ) (t : Tally) (m : ℕ) : Type 0 where
   pub lines : t .lines + m ≤ length ws / stride
-  pub nids : t .nid + m < 2 ^ 64
+  pub nids : t .nid + m < 2 ^ 32
 
 -- what a run of the program p from ws and t has done, m being how many lines p has from the k-th on behind n others
 pub record Laid {X : Type 0} (n k m : ℕ) (ws : List ℕ) (t : Tally) (p : Prog ℕ X) (r : Run Store X) : Type 0 where
@@ -40,6 +42,10 @@ next t = record { lines = t .lines + 1; nid = t .nid + 1 }
 abbrev put : List ℕ → Tally → Op ℕ → List ℕ
 put ws t o = putAt ws (t .lines) (lineOf (t .nid) o)
 
+and-both : (a b : Bool) → (a && b) ≡ true → (a ≡ true) × (b ≡ true)
+and-both true b e = (refl, e)
+and-both false b e = absurd (true≢false (sym e))
+
 there : (ws : List ℕ) (t : Tally) (m : ℕ) → Room ws t (suc m) → holds ws (t .lines) ≡ true
 there ws t m r = lt-ltb (t .lines) (length ws / stride) (omega (arith, r .lines))
 
@@ -53,10 +59,10 @@ room-next ws t o m r = record {
   nids = omega (arith, r .nids);
 }
 
-pub laid : {X : Type 0} (p : Prog ℕ X) (n k : ℕ) (ws : List ℕ) (t : Tally) → t .lines ≡ n + k → Room ws t (length (linesOf (behind n) k p))
+pub laid : {X : Type 0} (p : Prog ℕ X) (n k : ℕ) (ws : List ℕ) (t : Tally) → t .lines ≡ n + k → Room ws t (length (linesOf (behind n) k p)) → fitting (linesOf (behind n) k p) ≡ true
     → Laid n k (length (linesOf (behind n) k p)) ws t p (exec append (at ws t) p)
 unfolding linesOf answerOf numbered
-laid (done x) n k ws t e r = record {
+laid (done x) n k ws t e r fit = record {
   value = refl;
   nodes = sym (append-nil (view ws (t .lines)));
   lines = omega arith;
@@ -65,16 +71,19 @@ laid (done x) n k ws t e r = record {
   below = λ j h. refl;
   above = λ j h. refl;
 }
-laid {X} (line o f) n k ws t e r =
+laid {X} (line o f) n k ws t e r fit =
     subst (λ (g : Run Store ℕ). Laid n k (suc m) ws t (line o f) (exec append (g .state) (f (g .value))))
     (sym (append-room ws t o m r ∙ ap (λ j. ran (at (put ws t o) (next t)) j) e))
-    (go (laid (f (n + k)) n (k + 1) (put ws t o) (next t) (omega arith) (room-next ws t o m r)))
+    (go (laid (f (n + k)) n (k + 1) (put ws t o) (next t) (omega arith) (room-next ws t o m r) (both .1)))
   where
     m : ℕ
     m = length (linesOf (behind n) (k + 1) (f (n + k)))
 
+    both : (areaFits o ≡ true) × (fitting (linesOf (behind n) (k + 1) (f (n + k))) ≡ true)
+    both = and-both (areaFits o) _ fit
+
     placed : view (put ws t o) (t .lines + 1) ≡ view ws (t .lines) ++ (node (t .nid) o ∷ [])
-    placed = view-put ws (t .lines) (lineOf (t .nid) o) (there ws t m r) ∙ ap (λ (x : Node). view ws (t .lines) ++ (x ∷ [])) (node-back (t .nid) o)
+    placed = view-put ws (t .lines) (lineOf (t .nid) o) (there ws t m r) (line-fits (t .nid) (omega (arith, r .nids)) o (both .0)) ∙ ap (λ (x : Node). view ws (t .lines) ++ (x ∷ [])) (node-back (t .nid) o)
 
     go : {g : Run Store X} → Laid n (k + 1) m (put ws t o) (next t) (f (n + k)) g → Laid n k (suc m) ws t (line o f) g
     go h = record {

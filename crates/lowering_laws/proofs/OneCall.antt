@@ -1,6 +1,7 @@
 -- One call: refused, all stays; accepted, the instruction's lines stand behind the others and all else stays. Assumes nothing.
 use Prim.Native.Nat.{ℕ, _+_, _^_, _≤_}
 use mathlib.Core.Path.{_≡_, refl, sym, ap, subst, _∙_}
+use mathlib.Core.Bool.{true}
 use native.Mathlib.Omega.{arith}
 use native.Mathlib.Nat.{add-zero}
 use borrow.Author.Tests.{ltb-false, ne-eqb}
@@ -15,12 +16,13 @@ use Rattle.riscv.specs.Kind.{kindAt}
 use Rattle.lowering_refusals.specs.declared.State.{State}
 use Rattle.lowering_refusals.specs.Refusal.{roomOf, countsOut, refusalOf}
 use Rattle.lowering_refusals.proofs.Within.{neither}
+use Rattle.lowering_lines.specs.Lines.{nameFor}
 use Rattle.lowering.specs.Lowering.{Lent, aside, programOf, settled, roomIn, refused, loweringGiven, lowering}
 use Rattle.lowering.proofs.Accepted as A
 use Rattle.lowering_laws.specs.Lines.{linesOf, behind}
 use Rattle.lowering_laws.specs.Accepted.{growth, Accepted}
 use Rattle.lowering_laws.proofs.EachKind.{reads}
-use Rattle.lowering_laws.proofs.Growth.{grows, at-most}
+use Rattle.lowering_laws.proofs.Growth.{fitting, grows, fits, name-fits, at-most}
 use Rattle.lowering_laws.proofs.Laid.{Room, Laid, laid}
 use Rattle.lowering_laws.proofs.Elsewhere.{edges-else, needs-lines, needs-edges, names-else, dispatches-else, bads-else}
 
@@ -32,9 +34,16 @@ module _ (l : Lent) (st : State) (i : Instruction) (pc : ℕ) (flag : NodeRef) w
   unfolding loweringGiven
   when-refused h = rw (ne-eqb number 0 h)
 
+  small : ltb (nameFor (class (kindAt (i .kind))) (eqb (i .rs1) 0) (st .counts .names) pc .area) 256 ≡ true
+  small = name-fits (class (kindAt (i .kind))) (eqb (i .rs1) 0) (st .counts .names) pc
+
   grown : (at : ℕ → ℕ) → length (linesOf at 0 (programOf st i pc flag)) ≡ growth i
   unfolding programOf
-  grown at = sym (ap (λ r. length (r .lines)) (reads at _ _ _ _ _ _ (kindAt (i .kind)) _ _ _)) ∙ grows at _ _ _ _ _ _ (kindAt (i .kind)) _ _ _
+  grown at = sym (ap (λ r. length (r .lines)) (reads at _ _ _ _ _ _ (kindAt (i .kind)) _ _ _)) ∙ grows at _ _ _ _ _ _ small (kindAt (i .kind)) _ _ _
+
+  fit : (at : ℕ → ℕ) → fitting (linesOf at 0 (programOf st i pc flag)) ≡ true
+  unfolding programOf
+  fit at = sym (ap (λ r. fitting (r .lines)) (reads at _ _ _ _ _ _ (kindAt (i .kind)) _ _ _)) ∙ fits at _ _ _ _ _ _ small (kindAt (i .kind)) _ _ _
 
   module _ (e : number ≡ 0) where
     nid-in : st .tally .nid ≤ 2 ^ 31 + 2097152
@@ -43,7 +52,7 @@ module _ (l : Lent) (st : State) (i : Instruction) (pc : ℕ) (flag : NodeRef) w
         let p = neither (ltb 1048576 (st .tally .lines)) _ (A.counts-in _ (l .list) (roomIn l) (st .tally) (st .counts) i pc (flag .0) e) in
         ltb-false _ _ (neither (ltb (2 ^ 31 + 2097152) (st .tally .nid)) _ (p .1) .0)
 
-    room : Room (l .list) (st .tally) (growth i)
+    pub room : Room (l .list) (st .tally) (growth i)
     unfolding roomOf
     room = record {
       lines = rw (needs-lines (kindAt (i .kind)) (eqb (i .imm) 0) (eqb (i .rd) 0) pc (class (kindAt (i .kind))) (eqb (i .rs1) 0)) at (A.roomy _ (l .list) (roomIn l) (st .tally) (st .counts) i pc (flag .0) e .lines);
@@ -53,10 +62,10 @@ module _ (l : Lent) (st : State) (i : Instruction) (pc : ℕ) (flag : NodeRef) w
     abbrev behind-them : ℕ → ℕ
     behind-them = behind (st .tally .lines)
 
-    run : Laid (st .tally .lines) 0 (growth i) (l .list) (st .tally) (programOf st i pc flag) (exec append (at (l .list) (st .tally)) (programOf st i pc flag))
+    pub run : Laid (st .tally .lines) 0 (growth i) (l .list) (st .tally) (programOf st i pc flag) (exec append (at (l .list) (st .tally)) (programOf st i pc flag))
     run =
         subst (λ m. Laid (st .tally .lines) 0 m (l .list) (st .tally) (programOf st i pc flag) (exec append (at (l .list) (st .tally)) (programOf st i pc flag))) (grown behind-them)
-        (laid (programOf st i pc flag) (st .tally .lines) 0 (l .list) (st .tally) (sym (add-zero _)) (rw (grown behind-them) room))
+        (laid (programOf st i pc flag) (st .tally .lines) 0 (l .list) (st .tally) (sym (add-zero _)) (rw (grown behind-them) room) (fit behind-them))
 
     pub when-accepted : Accepted l st i pc flag (lowering l st i pc flag)
     unfolding loweringGiven settled

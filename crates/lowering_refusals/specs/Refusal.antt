@@ -20,7 +20,7 @@ use Rattle.lowering_refusals.specs.declared.State.{State}
 
 -- how many records or bytes lent storage of these lengths holds
 unfoldable pub roomOf : ℕ → ℕ → ℕ → ℕ → ℕ → Room
-roomOf list names edges dispatches bads = record { lines = list / 8; names = names; edges = edges / 4; dispatches = dispatches / 2; bads = bads }
+roomOf list names edges dispatches bads = record { lines = list / 4; names = names; edges = edges / 4; dispatches = dispatches / 2; bads = bads }
 
 -- 9: "more than 1,048,576 lines; a next identifier [..] above 2^31 + 2,097,152 at a lowering; [..] or a count above its storage"
 unfoldable pub countsOut : Room → Tally → Counts → Bool

@@ -84,14 +84,14 @@ fn roomy(
 // The room for the names of all lines, or the largest number where a line has too large an identifier or is not well formed: one pass for
 // both, as the list is longer than caches are.
 fn survey(list: &[u64], lines: usize, host: usize, ours: usize) -> usize
-    requires { ⌜ lines ≤ length (now list) / 8 ⌝ }
+    requires { ⌜ lines ≤ length (now list) / 4 ⌝ }
     ensures { λ r. ⌜ (r < 2 ^ 64 - 1 → Surveyed (now (list .entry)) lines host ours lines r) ⌝ }
 {
     let mut names = 0;
     let mut i = 0;
     while i < lines {
         let at = i * btor2_list::STRIDE;
-        if MOST_NID < list[at] {
+        if MOST_NID < list[at] / btor2_list::NID_UNIT {
             return LAST;
         }
         if list_check::line_unformed(list, i, host, ours) {
@@ -105,11 +105,11 @@ fn survey(list: &[u64], lines: usize, host: usize, ours: usize) -> usize
 
 // `names`, and the room for the name of line i where lines of its kind are named.
 fn name_room(list: &[u64], i: usize, names: usize) -> usize
-    requires { ⌜ i < length (now list) / 8 ⌝ }
+    requires { ⌜ i < length (now list) / 4 ⌝ }
     ensures { λ r. ⌜ (r < 2 ^ 64 - 1 → names + roomOf (said (now (list .entry)) i) ≤ r) ⌝ }
 {
     let at = i * btor2_list::STRIDE;
-    let kind = list[at + btor2_list::AT_KIND];
+    let kind = list[at + btor2_list::AT_HEAD] % btor2_list::BYTE;
     match kind {
         btor2_list::STATE => more(names, list[at + btor2_list::AT_NAME_LEN]),
         btor2_list::INPUT => more(names, list[at + btor2_list::AT_NAME_LEN]),

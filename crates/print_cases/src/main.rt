@@ -12,7 +12,7 @@ use print::Printed;
 fn main() {
     let mut buffer = [0u8; 262144];
     let n = io::read_full(STDIN_FILENO, &mut buffer);
-    let mut list = [0u64; 1027];
+    let mut list = [0u64; 515];
     run(&buffer[..n], &mut list);
 }
 

@@ -1,11 +1,12 @@
 // The check of the roles (refusal 13): each is a value line of its sort.
 use btor2::NodeRef;
 use btor2::get_sort;
-use btor2_list::AT_KIND;
-use btor2_list::AT_SORT;
+use btor2_list::AT_HEAD;
+use btor2_list::BYTE;
 use btor2_list::CONST;
 use btor2_list::ITE;
 use btor2_list::Looked;
+use btor2_list::SORT_UNIT;
 use btor2_list::STATE;
 use btor2_list::STRIDE;
 use btor2_list::look;
@@ -83,15 +84,16 @@ fn role_sort(role: usize) -> u64
 // Whether the value at a place is not of the sort of this number. Most roles are constants, states and ites, whose record says its own sort:
 // these are told without a lookup.
 fn role_out(list: &[u64], lines: usize, held: usize, place: NodeRef, sort: u64) -> bool
-    requires { ⌜ (held ≡ length (now list) / 8) × ((sort ≡ 0 → ⊥) × (sort ≤ 3)) ⌝ }
+    requires { ⌜ (held ≡ length (now list) / 4) × ((sort ≡ 0 → ⊥) × (sort ≤ 3)) ⌝ }
     ensures { λ r. ⌜ r ≡ not (eqb (valueNumber (lookAt (now (list .entry)) lines (place .0))) sort) ⌝ }
 {
     let p = place.0;
     if p < lines {
         if p < held {
             let at = p * STRIDE;
-            if list[at + AT_SORT] == sort {
-                if says_own_sort(list[at + AT_KIND]) {
+            let head = list[at + AT_HEAD];
+            if head / SORT_UNIT % BYTE == sort {
+                if says_own_sort(head % BYTE) {
                     return false;
                 }
             }

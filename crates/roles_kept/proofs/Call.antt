@@ -1,13 +1,11 @@
 -- One accepted call: the list behind it, and every role a value line of its sort. Assumes nothing.
-use Prim.Native.Nat.{ℕ, _+_, _*_, _^_, _≤_}
+use Prim.Native.Nat.{ℕ, _+_, _*_, _≤_}
 use mathlib.Core.Path.{_≡_, refl, sym, _∙_, ap, subst}
 use mathlib.Core.Bool.{Bool, true, false, cond, not, _&&_, _||_}
 use mathlib.Core.List.{List, _++_, map}
-use native.Mathlib.Nat.{add-zero}
 use native.Mathlib.Decide.{ℕ-discrete}
 use native.Mathlib.Omega.{arith}
-use borrow.Author.Tests.{ltb-false}
-use lib.Dec.{T, eqb, ltb}
+use lib.Dec.{T, eqb}
 use lib.ListN.{length}
 use Rattle.btor2.specs.declared.NodeRef.{NodeRef}
 use Rattle.btor2.specs.declared.Name.{Name}
@@ -29,18 +27,15 @@ use Rattle.riscv.specs.Kind.{Kind, kindAt}
 use Rattle.roles.specs.Roles.{role, registerNode, registerFlow, operandsFor, flowsIn, withFlows, withOutcome}
 use Rattle.roles_check.specs.RolesFit.{roleSort}
 use Rattle.lowering_refusals.specs.declared.State.{State}
-use Rattle.lowering_refusals.specs.Refusal.{roomOf, countsOut, refusalOf}
-use Rattle.lowering_refusals.proofs.Within.{neither, within}
+use Rattle.lowering_refusals.specs.Refusal.{roomOf, refusalOf}
+use Rattle.lowering_refusals.proofs.Within.{within}
 use Rattle.lowering.specs.Lowering.{Lent, Answer, programOf, settled, roomIn, loweringGiven, lowering}
 use Rattle.lowering_lines.specs.Lines.{nameFor}
 use Rattle.lowering.proofs.Accepted as A
 use Rattle.lowering_laws.specs.Lines.{linesOf, answerOf, behind, numbered}
 use Rattle.lowering_laws.specs.Accepted.{growth, Accepted}
 use Rattle.lowering_laws.proofs.EachKind.{Reading, reading, reads}
-use Rattle.lowering_laws.proofs.Growth.{grows}
-use Rattle.lowering_laws.proofs.Laid.{Room, laid}
-use Rattle.lowering_laws.proofs.Elsewhere.{needs-lines}
-use Rattle.lowering_laws.proofs.OneCall.{when-refused, when-accepted}
+use Rattle.lowering_laws.proofs.OneCall.{when-refused, when-accepted, room, run}
 use Rattle.lowering_laws.proofs.Template.{Role, flag as flagRole, rs1, rs2, zero, one, trueBit, memoryNode, counterNode, maximumNode, counterFlow, maximumFlow, divisionFlow, remainderFlow, accessFlow, additionFlow, multiplicationFlow, ecallFlow, registerFlow as registerRole, memoryFlow as memoryRole, Ref, resolve, mapFlows, mapOutcome, mapReading, template, same}
 use Rattle.meaning.specs.Lines.{operators}
 use Rattle.meaning.proofs.Walk.{placed}
@@ -198,26 +193,9 @@ module _ (l : Lent) (st : State) (i : Instruction) (pc : ℕ) (flag : NodeRef) w
 
     -- ---- the roles after the call
 
-    grown : length (linesOf (behind count) 0 (programOf st i pc flag)) ≡ growth i
-    unfolding programOf
-    grown = sym (ap (λ r. length (r .lines)) (reads (behind count) _ _ _ _ _ _ kind _ _ _)) ∙ grows (behind count) _ _ _ _ _ _ kind _ _ _
-
-    identifier-in : st .tally .nid ≤ 2 ^ 31 + 2097152
-    unfolding countsOut
-    identifier-in =
-        let p = neither (ltb 1048576 count) _ (A.counts-in _ (l .list) (roomIn l) (st .tally) (st .counts) i pc (flag .0) e) in
-        ltb-false _ _ (neither (ltb (2 ^ 31 + 2097152) (st .tally .nid)) _ (p .1) .0)
-
-    room : Room (l .list) (st .tally) (length (linesOf (behind count) 0 (programOf st i pc flag)))
-    unfolding roomOf
-    room = rw grown (record {
-      lines = rw (needs-lines kind z d pc (class kind) s) at (A.roomy _ (l .list) (roomIn l) (st .tally) (st .counts) i pc (flag .0) e .lines);
-      nids = omega (arith, identifier-in, accepts .most);
-    })
-
     run-gives : exec append (at (l .list) (st .tally)) (programOf st i pc flag) .value
         ≡ P.gives (mapFlows (resolve place (behind count)) (lines .gives .flows)) (mapOutcome (resolve place (behind count)) (lines .gives .outcome))
-    run-gives = laid (programOf st i pc flag) count 0 (l .list) (st .tally) (sym (add-zero _)) room .value ∙ gives-are
+    run-gives = run l st i pc flag e .value ∙ gives-are
 
     pub roles-after : answered .lowered .state .roles
         ≡ withOutcome (withFlows (st .roles) (mapFlows (resolve place (behind count)) (lines .gives .flows))) (i .rd) (mapOutcome (resolve place (behind count)) (lines .gives .outcome))
@@ -295,7 +273,7 @@ module _ (l : Lent) (st : State) (i : Instruction) (pc : ℕ) (flag : NodeRef) w
     roles-set = fit-flows (mapFlows (resolve place (behind count)) (lines .gives .flows)) old-roles (flow-sorts (lines .gives .flows) (past-outcome .0))
 
     pub stored-after : answered .lowered .state .tally .lines * stride ≤ length (answered .lent .list)
-    stored-after = rw (accepts .lines, accepts .list .size) (omega (arith, rw grown at (room .lines)))
+    stored-after = rw (accepts .lines, accepts .list .size) (omega (arith, room l st i pc flag e .lines))
 
     pub roled-after : Roled (operators (answered .lent .list) (answered .lowered .state .tally .lines)) (answered .lowered .state .roles)
     roled-after =

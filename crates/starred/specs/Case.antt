@@ -28,7 +28,7 @@ at address k rd rs1 rs2 imm = record { instruction = record { kind = K.number k;
 
 -- what the listing lends: its start in words for 1,024 lines, the bytes of 1,024 names, two edges, a dispatch and 1,024 bads
 unfoldable pub room : Lent
-room = lent (startIn (replicate 8192 0)) (replicate 33792 0) (replicate 8 0) (replicate 2 0) (replicate 1024 0)
+room = lent (startIn (replicate 4096 0)) (replicate 33792 0) (replicate 8 0) (replicate 2 0) (replicate 1024 0)
 
 -- lowered under the listing's flag, identifier 58 at place 38
 unfoldable pub answer : Given → Answer

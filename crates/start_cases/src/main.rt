@@ -19,7 +19,7 @@ use lowering_refusals::State;
 fn main() {
     let mut buffer = [0u8; 262144];
     let n = io::read_full(STDIN_FILENO, &mut buffer);
-    let mut list = [0u64; 480];
+    let mut list = [0u64; 240];
     run(&buffer[..n], &mut list);
 }
 

@@ -29,8 +29,13 @@ mod ffi {
     }
 }
 
+/// The first word of a line. `area` is that of its name, `init` not 0 for a state that has one.
+pub const fn head(identifier: u32, kind: u8, sort: u8, area: u8, init: u8) -> u64 {
+    (identifier as u64) << 32 | u32::from_le_bytes([kind, sort, area, init]) as u64
+}
+
 /// The words of a line, an edge, a dispatch, the state and a call.
-pub const LINE: usize = 8;
+pub const LINE: usize = 4;
 pub const EDGE: usize = 4;
 pub const DISPATCH: usize = 2;
 pub const STATE: usize = 85;

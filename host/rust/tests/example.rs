@@ -1,9 +1,9 @@
 // The scope document's example, from the listing program's start: lowered, printed, checked and refused.
-use lanthanumbat::{Instruction, Lent, Refusal, DISPATCH, EDGE, LINE, STATE};
+use lanthanumbat::{head, Instruction, Lent, Refusal, DISPATCH, EDGE, LINE, STATE};
 
 const FLAG: usize = 38;
 const START: usize = 39;
-const FIRST: u64 = 20;
+const FIRST: u32 = 20;
 const LUI: u64 = 0;
 const SRLIW: u64 = 22;
 const BLTU: u64 = 45;
@@ -24,9 +24,9 @@ fn start() -> Storage {
     let states = [2; 31].into_iter().chain([3, 3, 2, 1]).map(|sort| (19, sort, 0));
     let mut list = vec![0; 1024 * LINE];
     for (place, (kind, sort, imm)) in constants.into_iter().chain(states).enumerate() {
-        list[place * LINE..(place + 1) * LINE].copy_from_slice(&[FIRST + place as u64, kind, sort, 0, 0, 0, imm, 0]);
+        list[place * LINE..(place + 1) * LINE].copy_from_slice(&[head(FIRST + place as u32, kind, sort, 0, 0), imm, 0, 0]);
     }
-    let counts = [START as u64, FIRST + START as u64, 0, 0, 0, 0];
+    let counts = [START as u64, FIRST as u64 + START as u64, 0, 0, 0, 0];
     let nodes = [0, 1, 2, 3, 35, 36, 37, 2].into_iter().chain(4..35);
     let flows = (4..35).chain([35, 36, 37, 3, 3, 2, 0, 0, 0]);
     let state: Vec<u64> = counts.into_iter().chain(nodes).chain(flows).collect();

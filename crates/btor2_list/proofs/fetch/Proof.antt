@@ -1,5 +1,4 @@
--- The record is read word by word. Assumes nothing.
-use mathlib.Core.Path.{refl}
+-- The record is read field by field. Assumes nothing.
 use Rattle.btor2_list.specs.Record.{lineAt}
 use borrow.Author.Needs.{needs}
 use Rattle.btor2_list.proofs.fetch.Statement.{statement}
@@ -7,9 +6,7 @@ use Rattle.btor2_list.proofs.fetch.Tie as tie
 
 returns : tie.Need-returns
 unfolding lineAt
-returns c = refl
+returns c = rw (c .either .ensures)
 
 pub fetch-spec : {M : Type 1} → statement M
-fetch-spec =
-    tie.close
-    (tie.spec (λ c. search needs) (λ c. search needs) (λ c. search needs) (λ c. search needs) (λ c. search needs) (λ c. search needs) (λ c. search needs) (λ c. search needs) (λ c. search needs) (λ c. search needs) (λ c. search needs) (λ c. search needs) (λ c. search needs) (λ c. search needs) (λ c. search needs) (λ c. search needs) (λ c. search needs) (λ c. search needs) (λ c. search needs) (λ c. search needs) (λ c. search needs) (λ c. search needs) (λ c. search needs) (λ c. search needs) (λ c. search needs) (λ c. search needs) (λ c. search needs) (λ c. search needs) (λ c. search needs) (λ c. search needs) returns)
+fetch-spec = tie.close (tie.spec (λ c. search needs) (λ c. search needs) (λ c. search needs) (λ c. search needs) (λ c. search needs) (λ c. search needs) (λ c. search needs) (λ c. search needs) (λ c. search needs) (λ c. search needs) (λ c. search needs) (λ c. search needs) (λ c κs. search needs) returns)

@@ -18,19 +18,17 @@ returns-3 : tie.Need-returns-3
 unfolding lineAt
 returns-3 c =
     let k = c .before .before .before in
-    let e2 = k .before .before .before .before in
-    let a = e2 .before .before .before .args in
-    rw (lt-ltb _ _ (e2 .before .if1 .left), lt-ltb _ _ (e2 .if2 .left), ← k .carries .ensures (lineAt (now (a .list)) (a .place .0 * stride)) refl refl, c .before .s .given .1)
+    let e = k .before .before in
+    let a = e .before .before .before .args in
+    rw (lt-ltb _ _ (e .before .if1 .left), lt-ltb _ _ (e .if2 .left), ← k .carries .ensures (lineAt (now (a .list)) (a .place .0 * stride)) refl refl, c .before .s .given .1)
 
 returns-4 : tie.Need-returns-4
 unfolding lineAt
 returns-4 c =
     let k = c .before .before in
-    let e2 = k .before .before .before .before in
-    let a = e2 .before .before .before .args in
-    rw (lt-ltb _ _ (e2 .before .if1 .left), lt-ltb _ _ (e2 .if2 .left), ← k .carries .ensures (lineAt (now (a .list)) (a .place .0 * stride)) refl refl, c .enum-told .given .1)
+    let e = k .before .before in
+    let a = e .before .before .before .args in
+    rw (lt-ltb _ _ (e .before .if1 .left), lt-ltb _ _ (e .if2 .left), ← k .carries .ensures (lineAt (now (a .list)) (a .place .0 * stride)) refl refl, c .enum-told .given .1)
 
 pub look-spec : {M : Type 1} → statement M
-look-spec =
-    tie.close
-    (tie.spec returns returns-2 (λ c. search needs) (λ c. search needs) (λ c. search needs) (λ c. search needs) (λ c. search needs) (λ c. search needs) (λ c. search needs) (λ c. search needs) (λ c. search needs) (λ c. search needs) (λ c κs. search needs) (λ c. search needs) (λ c. search needs) returns-3 returns-4)
+look-spec = tie.close (tie.spec returns returns-2 (λ c. search needs) (λ c. search needs) (λ c. search needs) (λ c. search needs) (λ c κs. search needs) (λ c. search needs) (λ c. search needs) returns-3 returns-4)

@@ -1,28 +1,23 @@
--- A named line has its name where another has operands. Assumes nothing.
-use mathlib.Core.Path.{_≡_, sym, _∙_}
-use mathlib.Core.Bool.{true, false}
-use Rattle.btor2_list.specs.Record.{named}
+-- Each write is within the list, since none before it changed the length; each word is the definition's. Assumes nothing.
+use native.Mathlib.Omega.{arith}
+use native.Mathlib.Numerals.{suc-eq-add-one}
+use native.Mathlib.Nat.{add-assoc, add-zero}
+use lib.ListN.{length-set}
 use borrow.Author.Needs.{needs}
 use Rattle.btor2_list.proofs.store.Statement.{statement}
 use Rattle.btor2_list.proofs.store.Tie as tie
 
 returns : tie.Need-returns
 returns c =
-    let w = c .before .before in
-    let t = w .before .before in
-    let n = t .before in
-    let is : named (n .before .before .before .args .line .kind) ≡ true = sym (n .is-named .ensures) ∙ t .if1 .taken in
-    rw is (w .store-words .ensures)
-
-returns-2 : tie.Need-returns-2
-returns-2 c =
-    let w = c .before .before in
-    let e = w .before .before in
-    let n = e .before in
-    let is : named (n .before .before .before .args .line .kind) ≡ false = sym (n .is-named .ensures) ∙ e .if1 .left in
-    rw is (w .store-words2 .ensures)
+    let e3 = c .before in
+    let e2 = e3 .before in
+    let h = e2 .before in
+    let n = h .before in
+    let e = n .before in
+    rw (c .either4 .ensures, e3 .either3 .ensures, e2 .either2 .ensures, h .head-of .ensures, n .is-named .ensures, e .either .ensures)
+    (simp (suc-eq-add-one, add-assoc, add-zero))
 
 pub store-spec : {M : Type 1} → statement M
 store-spec =
     tie.close
-    (tie.spec (λ c κs. search needs) (λ c κs. search needs) (λ c. search needs) returns (λ c κs. search needs) (λ c. search needs) returns-2)
+    (tie.spec (λ c κs. search needs) (λ c κs. search needs) (λ c κs. search needs) (λ c. search needs) (λ c. search needs) (λ c. search needs) (λ c κs. search needs) (λ c. search needs) (λ c. search needs) (λ c. simp length-set (omega arith)) (λ c κs. search needs) (λ c. search needs) (λ c. search needs) (λ c. simp length-set (omega arith)) (λ c κs. search needs) (λ c. search needs) (λ c. search needs) (λ c. simp length-set (omega arith)) (λ c. simp length-set) returns)

@@ -1,12 +1,13 @@
 -- One arm for each kind, two where it has a sort; the last has ruled out all 22. Assumes nothing.
 use Prim.Native.Nat.{_*_}
-use mathlib.Core.Path.{sym, _∙_}
+use mathlib.Core.Path.{refl, sym, _∙_}
 use mathlib.Core.Bool.{or-false}
 use denote.Ref.{now}
-use Rattle.btor2_list.specs.Record.{stride, lineAt}
+use Rattle.btor2_list.specs.Record.{stride, initIn, word, lineAt}
 use Rattle.btor2_list.specs.Node.{opOf}
 use Rattle.list_check.specs.Formed.{opUnformed}
 use Rattle.list_check.proofs.ByKind.{first, second, a-const, an-ite, an-and, an-or, a-not, a-state, a-next, an-input, no-kind}
+use borrow.Author.Tests.{eq-eqb}
 use borrow.Author.Needs.{needs}
 use Rattle.list_check.proofs.unformed_by_kind.Statement.{statement}
 use Rattle.list_check.proofs.unformed_by_kind.Tie as tie
@@ -100,11 +101,15 @@ returns-22 c = second _ _ _ _ _ (c .before .if4 .left) (c .before .before .no-so
 
 returns-23 : tie.Need-returns-23
 unfolding lineAt
-returns-23 c = first _ _ _ _ (c .if5 .taken) (c .before .no-sort6 .ensures) (a-state _ _ _ _ (c .before .before .match .keys19))
+returns-23 c = first _ _ _ _ (c .if5 .taken) (c .before .no-sort6 .ensures) (a-state _ _ _ _ (c .before .before .match .keys19) _ refl)
 
 returns-24 : tie.Need-returns-24
 unfolding lineAt
-returns-24 c = second _ _ _ _ _ (c .before .if5 .left) (c .before .before .no-sort6 .ensures) (c .state-out .ensures) (a-state _ _ _ _ (c .before .before .before .match .keys19))
+returns-24 c =
+    let m = c .before .before .before in
+    let a = m .before .before .before .args in
+    let k = m .match .keys19 in
+    second _ _ _ _ _ (c .before .if5 .left) (c .before .before .no-sort6 .ensures) (c .state-out .ensures) (a-state _ _ _ _ k (initIn (word (now (a .list)) (a .i * stride) 0)) (rw (eq-eqb _ 19 k)))
 
 returns-25 : tie.Need-returns-25
 unfolding lineAt

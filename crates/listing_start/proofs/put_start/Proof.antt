@@ -13,19 +13,19 @@ use Rattle.listing_start.proofs.Copied.{copied-more, copied-all}
 use Rattle.listing_start.proofs.put_start.Statement.{statement}
 use Rattle.listing_start.proofs.put_start.Tie as tie
 
-whole : length startWords ≡ 312
+whole : length startWords ≡ 156
 unfolding names joined named states startOps records startWords
 whole = refl
 
 abbrev Inv-loop : tie.InvT-loop
-Inv-loop list₀ k₀ list k = (k ≤ 312) × (312 ≤ length list₀) × (length list ≡ length list₀) × (list ≡ sets list₀ 0 (take k startWords))
+Inv-loop list₀ k₀ list k = (k ≤ 156) × (156 ≤ length list₀) × (length list ≡ length list₀) × (list ≡ sets list₀ 0 (take k startWords))
 
 abbrev μ-loop : tie.MeasureT-loop
-μ-loop list₀ k₀ list k = 312 - k
+μ-loop list₀ k₀ list k = 156 - k
 
 returns : tie.Need-returns Inv-loop μ-loop
 unfolding startIn
-returns c = rw (lt-ltb _ 312 (c .if1 .taken))
+returns c = rw (lt-ltb _ 156 (c .if1 .taken))
 
 loop-holds : tie.Need-loop-holds Inv-loop μ-loop
 loop-holds c = (omega arith, c .if1 .left, refl, refl)
@@ -64,7 +64,7 @@ unfolding startIn
 returns-2 c =
     let l = c .before .loop in
     let a = c .before .before .before .before .args in
-    rw (le-ltb (length (now (a .list))) 312 (l .inv .1))
+    rw (le-ltb (length (now (a .list))) 156 (l .inv .1))
     (l .inv .3 ∙ rw whole at (copied-all startWords (now (a .list)) (l .k) (rw whole (c .loop-test .left)) (rw whole (l .inv .1))))
 
 pub put-start-spec : {M : Type 1} → statement M

@@ -31,7 +31,7 @@ held : (c : tie.Else1) → let a = c .before .before .before .before .before .be
 unfolding roomOf
 held c =
     let a = c .before .before .before .before .before .before .before .before .before .before .before .args in
-    le-ltb (length (now (a .list)) / 8) (a .state .tally .lines)
+    le-ltb (length (now (a .list)) / 4) (a .state .tally .lines)
     (within-start (roomIn (now (a .list)) (now (a .names)) (now (a .edges)) (now (a .dispatches)) (now (a .bads))) (a .state .tally) (a .state .counts)
     (sym (counted (c .before)) ∙ c .if1 .left) .0 .lines)
 
