@@ -46,7 +46,7 @@ enum { LANTHANUMBAT_LINE = 4, LANTHANUMBAT_EDGE = 4, LANTHANUMBAT_DISPATCH = 2, 
 
 // The first word of a line.
 #define LANTHANUMBAT_HEAD(identifier, kind, sort, area, init) \
-    ((uint64_t)(identifier) << 32 | (uint64_t)(init) << 24 | (uint64_t)(area) << 16 | (uint64_t)(sort) << 8 | (uint64_t)(kind))
+    ((uint64_t)(identifier) << 32 | (uint64_t)(uint8_t)(init) << 24 | (uint64_t)(uint8_t)(area) << 16 | (uint64_t)(uint8_t)(sort) << 8 | (uint8_t)(kind))
 
 // Lowers one instruction. Refusals 9, 13, 1 to 8. An instruction appends at most 37 lines, 2 edges, a dispatch, or a bad and its name.
 //   address         of the instruction

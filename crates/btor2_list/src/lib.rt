@@ -164,7 +164,7 @@ fn head_of(kind: u64, sort: u64, area: u64, init: u64, nid: u64) -> u64
 }
 
 // Whether lines of a kind have a name.
-fn is_named(kind: u64) -> bool
+pub fn is_named(kind: u64) -> bool
     ensures { λ r. ⌜ r ≡ named kind ⌝ }
 {
     if kind == STATE {

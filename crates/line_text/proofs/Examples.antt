@@ -5,7 +5,7 @@ use Rattle.btor2.specs.declared.NodeType.the-variants.{Bit}
 use Rattle.btor2.specs.Op.{const, not, mapOp}
 use Rattle.btor2_list.specs.Node.{node}
 use Rattle.text.specs.Numeral.{numeral}
-use Rattle.word_text.specs.Words.{ascii}
+use Rattle.node_text.specs.Words.{ascii}
 use Rattle.node_text.specs.Row.{written}
 use Rattle.record_text.specs.Line.{lineText}
 use Rattle.line_text.specs.Line.{nodesText, runText}

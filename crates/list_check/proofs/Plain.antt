@@ -9,12 +9,13 @@ use native.Mathlib.Omega.{arith}
 use lib.Dec.{eqb}
 use borrow.Author.Tests.{eq-eqb, ne-eqb}
 use Rattle.btor2.specs.declared.NodeType.{NodeType}
-use Rattle.btor2.specs.declared.NodeType.the-variants.{Bit, Word, Memory, Input1Byte, Input2Byte, Input3Byte, Input4Byte, Input5Byte, Input6Byte, Input7Byte}
+use Rattle.btor2.specs.declared.NodeType.the-variants.{Bit, Word, Memory}
 use Rattle.btor2.specs.declared.MaybeSort.the-variants.{Sort}
 use Rattle.btor2.specs.Sort.{sortNumber, sortNumbered}
 use Rattle.btor2.specs.Op.{Op}
 use Rattle.btor2.proofs.Sort.{sort-back}
 use Rattle.btor2_list.specs.declared.Line.{Line}
+use Rattle.btor2_list.specs.Record.{named}
 use Rattle.btor2_list.specs.Node.{opOf}
 use Rattle.list_check.specs.Lines.{any}
 use Rattle.list_check.specs.Formed.{opUnformed}
@@ -32,11 +33,10 @@ this s n more h = ⊎-elim (λ (e : sortNumber s ≡ n). (s, sym e)) more (eq-or
 pub one-to-three : (n : ℕ) → n ≤ 3 → 1 ≤ n → Known n
 one-to-three n h = this Bit n (this Word n (this Memory n (λ l. absurd (omega arith))))
 
-pub eleven-to-seventeen : (n : ℕ) → n ≤ 17 → 11 ≤ n → Known n
-eleven-to-seventeen n h =
-    this Input1Byte n (this Input2Byte n (this Input3Byte n (this Input4Byte n (this Input5Byte n (this Input6Byte n (this Input7Byte n (λ l. absurd (omega arith))))))))
-
 -- ---- kind by kind
+
+pub unnamed : (k : ℕ) → k ≤ 20 → (k ≡ 19 → ⊥) → named k ≡ false
+unnamed k h n = rw (ne-eqb k 19 n, ne-eqb k 21 (λ e. omega arith), ne-eqb k 22 (λ e. omega arith))
 
 module _ (host ours : ℕ) (out : ℕ → Bool) (l : Line) where
   abbrev Formed : Op ℕ → Type 0

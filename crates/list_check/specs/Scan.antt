@@ -4,8 +4,11 @@ use Prim.Native.Nat.{ℕ, _*_}
 use mathlib.Core.Bool.{Bool, true, cond, _||_}
 use mathlib.Core.List.{List}
 use lib.Dec.{eqb, leb}
-use Rattle.btor2_list.specs.Record.{stride, kindIn, word, lineAt, holds}
+use Rattle.btor2_list.specs.Record.{stride, kindIn, named, word, lineAt, holds}
+use Rattle.btor2_list.specs.declared.Line.{Line}
 use Rattle.btor2_list.specs.Node.{opOf}
+use Rattle.list_check.specs.declared.Checked.{Checked}
+use Rattle.list_check.specs.declared.Checked.the-variants.{Unformed, Unnamed, Named}
 use Rattle.list_check.specs.Formed.{opUnformed}
 
 -- place q is that of no line before line i, or of a Next (20) or a Bad (22)
@@ -15,6 +18,14 @@ outBefore ws i q = leb i q || (eqb (kindIn (word ws (q * stride) 0)) 20 || eqb (
 -- 11, of line i; or the words do not hold it
 abbrev pub scanUnformed : List ℕ → ℕ → ℕ → ℕ → Bool
 scanUnformed ws i host ours = cond (holds ws i) (opUnformed host ours (outBefore ws i) (opOf (lineAt ws (i * stride)))) true
+
+-- the length of its name, where lines of its kind have one
+abbrev pub nameLength : Line → Checked
+nameLength l = cond (named (l .kind)) (Named (l .name .len)) Unnamed
+
+-- what a scan finds of line i
+abbrev pub scanLine : List ℕ → ℕ → ℕ → ℕ → Checked
+scanLine ws i host ours = cond (scanUnformed ws i host ours) Unformed (nameLength (lineAt ws (i * stride)))
 
 -- word k of line i, an operand, is out
 abbrev pub outAt : List ℕ → ℕ → ℕ → Bool

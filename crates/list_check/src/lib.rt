@@ -42,17 +42,29 @@ ghost use mathlib.Core.Path.{_≡_};
 ghost use mathlib.Core.Bool.{true, false, not, _&&_, _||_};
 ghost use lib.Dec.{eqb, ltb};
 ghost use mathlib.Core.List.{[], _∷_};
-ghost use Prim.Native.Nat.{ℕ, _+_, _*_, _/_, _≤_, _<_};
+ghost use Prim.Native.Nat.{ℕ, _+_, _*_, _/_, _<_};
 ghost use lib.ListN.{length};
-ghost use Rattle.btor2.specs.Sort.{sortNumber, sortNumbered};
-ghost use Rattle.btor2_list.specs.Record.{stride, kindIn, sortIn, initIn, word, lineAt};
+ghost use Rattle.btor2.specs.Sort.{sortNumbered};
+ghost use Rattle.btor2_list.specs.Record.{stride, kindIn, sortIn, initIn, named, word, lineAt};
 ghost use Rattle.btor2_list.specs.Node.{opOf};
 ghost use Rattle.list_check.specs.Lines.{any};
 ghost use Rattle.list_check.specs.Formed.{nameOutside, hasValue, opUnformed, unformedWords};
-ghost use Rattle.list_check.specs.Scan.{outBefore, scanUnformed, outAt};
+ghost use Rattle.list_check.specs.Scan.{outBefore, nameLength, scanLine, outAt};
+
+// The numbers of the first and the last sort that the builder writes.
+const BIT: u64 = 1;
+
+const MEMORY: u64 = 3;
 
 // An Ext from Memory as one number, kind * 32 + sort, so that one comparison tells it.
-const EXT_FROM_MEMORY: u64 = EXT * 32 + 3;
+const EXT_FROM_MEMORY: u64 = EXT * 32 + MEMORY;
+
+// What the check of a line finds: 11; or that it is well formed, and how long its name is where lines of its kind have one.
+pub enum Checked {
+    Unformed,
+    Unnamed,
+    Named(u64),
+}
 
 // 11: some line has an unknown kind or sort, extends a Memory, names an operand that is no earlier value line, or has a name outside its
 // area. `host` and `ours` are the lengths of the two areas. True where the words do not hold as many lines.
@@ -64,7 +76,7 @@ pub fn unformed(list: &[u64], lines: usize, host: usize, ours: usize) -> bool
     }
     let mut i = 0;
     while i < lines {
-        if record_unformed(list, i, host, ours) {
+        if unformed_by_kind(list, i, host, ours) {
             return true;
         }
         i += 1;
@@ -72,34 +84,42 @@ pub fn unformed(list: &[u64], lines: usize, host: usize, ours: usize) -> bool
     false
 }
 
-// The same of line i alone, in a scan that has found that each line before it has a known kind and sort.
-pub fn line_unformed(list: &[u64], i: usize, host: usize, ours: usize) -> bool
-    ensures { λ r. ⌜ r ≡ scanUnformed (now (list .entry)) i host ours ⌝ }
+// Line i alone, in a scan that has found that each line before it has a known kind and sort. In a long list the jump of a match on the kind
+// is guessed wrongly for most lines, so that a test which nearly all of them pass stands in front of it.
+pub fn check_line(list: &[u64], i: usize, host: usize, ours: usize) -> Checked
+    ensures { λ r. ⌜ r ≡ scanLine (now (list .entry)) i host ours ⌝ }
 {
     if list.len() / STRIDE <= i {
-        return true;
+        return Checked::Unformed;
     }
-    record_unformed(list, i, host, ours)
-}
-
-// Line i alone. In a long list the jump of a match on the kind is guessed wrongly for most lines, so that a test which nearly all of them
-// pass stands in front of it.
-fn record_unformed(list: &[u64], i: usize, host: usize, ours: usize) -> bool
-    requires { ⌜ i < length (now list) / 4 ⌝ }
-    ensures { λ r. ⌜ r ≡ opUnformed host ours (outBefore (now (list .entry)) i) (opOf (lineAt (now (list .entry)) (i * stride))) ⌝ }
-{
     if plainly_formed(list, i) {
-        return false;
+        return Checked::Unnamed;
     }
-    unformed_by_kind(list, i, host, ours)
+    if unformed_by_kind(list, i, host, ours) {
+        return Checked::Unformed;
+    }
+    name_len(list, i)
 }
 
-// Line i is surely well formed: a kind without a name, a known sort, and a Const, or no Ext from Memory and none of the three operands out,
-// whether or not the kind uses these fields. In a list that the builder wrote an unused operand is 0, an earlier value line, so that each
-// branch nearly always goes the same way.
+// Whether lines of this kind have a name, and the length of its name.
+fn name_len(list: &[u64], i: usize) -> Checked
+    requires { ⌜ i < length (now list) / 4 ⌝ }
+    ensures { λ r. ⌜ r ≡ nameLength (lineAt (now (list .entry)) (i * stride)) ⌝ }
+{
+    let at = i * STRIDE;
+    let len = list[at + AT_NAME_LEN];
+    if btor2_list::is_named(list[at + AT_HEAD] % BYTE) {
+        return Checked::Named(len);
+    }
+    Checked::Unnamed
+}
+
+// Line i is surely well formed: a kind without a name, Bit, Word or Memory as its sort, and a Const, or no Ext from Memory and none of the
+// three operands out, whether or not the kind uses these fields. In a list that the builder wrote an unused operand is 0, an earlier value
+// line, so that each branch nearly always goes the same way.
 fn plainly_formed(list: &[u64], i: usize) -> bool
     requires { ⌜ i < length (now list) / 4 ⌝ }
-    ensures { λ r. ⌜ (r ≡ true → (host ours : ℕ) → opUnformed host ours (outBefore (now (list .entry)) i) (opOf (lineAt (now (list .entry)) (i * stride))) ≡ false) ⌝ }
+    ensures { λ r. ⌜ (r ≡ true → (named (kindIn (word (now (list .entry)) (i * stride) 0)) ≡ false) × ((host ours : ℕ) → opUnformed host ours (outBefore (now (list .entry)) i) (opOf (lineAt (now (list .entry)) (i * stride))) ≡ false)) ⌝ }
 {
     let at = i * STRIDE;
     let head = list[at + AT_HEAD];
@@ -114,7 +134,10 @@ fn plainly_formed(list: &[u64], i: usize) -> bool
     if kind == STATE {
         return false;
     }
-    if !known_sort(sort) {
+    if sort < BIT {
+        return false;
+    }
+    if MEMORY < sort {
         return false;
     }
     if kind == CONST {
@@ -124,16 +147,6 @@ fn plainly_formed(list: &[u64], i: usize) -> bool
         return false;
     }
     !three_out(list, i)
-}
-
-// A number is a sort's, by comparisons: `sort_of` is a match.
-fn known_sort(number: u64) -> bool
-    ensures { λ r. ⌜ (r ≡ true → (number ≤ 17) × ((s : NodeType) × (number ≡ sortNumber s))) ⌝ }
-{
-    if number < 11 {
-        return 1 <= number && number <= 3;
-    }
-    number <= 17
 }
 
 // By a match on the kind: the fields that it uses.

@@ -4,13 +4,16 @@ use mathlib.Core.Path.{_≡_}
 use mathlib.Core.Bool.{true, false}
 use mathlib.Core.List.{List, [], _∷_, _++_, append-nil, append-assoc}
 use Rattle.text.specs.Numeral.{decimalText}
-use Rattle.word_text.specs.Words.{spaced}
+use Rattle.node_text.specs.Words.{spaced}
 use Rattle.node_text.specs.Row.{written}
 
 -- the same pieces in another grouping: space s, identifier n, word w, first number x, and what ends the row
 module _ (s n w x end : List ℕ) where
   abbrev first : List ℕ
   first = n ++ (s ++ w ++ s) ++ x
+
+  one-piece : first ++ end ≡ n ++ s ++ w ++ (s ++ x ++ []) ++ [] ++ end
+  one-piece = simp (append-nil, append-assoc)
 
   two-pieces : (y : List ℕ) → first ++ (s ++ y) ++ end ≡ n ++ s ++ w ++ (s ++ x ++ (s ++ y ++ [])) ++ [] ++ end
   two-pieces y = simp (append-nil, append-assoc)
@@ -27,6 +30,10 @@ module _ (s n w x end : List ℕ) where
 module _ (nid a : ℕ) (w : List ℕ) where
   abbrev head : List ℕ
   head = decimalText nid ++ spaced w ++ decimalText a
+
+  pub one-row : head ++ (10 ∷ []) ≡ written nid w (a ∷ []) false []
+  unfolding written
+  one-row = one-piece (32 ∷ []) (decimalText nid) w (decimalText a) (10 ∷ [])
 
   pub two-row : (b : ℕ) → head ++ (32 ∷ decimalText b) ++ (10 ∷ []) ≡ written nid w (a ∷ b ∷ []) false []
   unfolding written

@@ -9,10 +9,10 @@ use native.Mathlib.Numerals.{add-one}
 use native.Mathlib.Omega.{arith}
 use lib.Dec.{eqb, leb}
 use lib.ListN.{length, take, drop, length-append, length-take}
-use borrow.Author.Tests.{lt-ltb, ne-eqb}
+use borrow.Author.Tests.{lt-ltb}
 use Rattle.text.specs.Numeral.{decimalText}
 use Rattle.text.proofs.Laws.{numeral-length}
-use Rattle.digits.proofs.Split.{wider}
+use Rattle.node_text.proofs.Split.{wider}
 use Rattle.btor2.specs.declared.Name.{Name}
 use Rattle.btor2.specs.declared.NodeType.{NodeType}
 use Rattle.btor2.specs.declared.NodeType.the-variants.{Bit, Word, Memory, Input1Byte, Input2Byte, Input3Byte, Input4Byte, Input5Byte, Input6Byte, Input7Byte}
@@ -21,9 +21,9 @@ use Rattle.btor2.specs.declared.MaybeSort.the-variants.{Sort, NoSort}
 use Rattle.btor2.specs.Sort.{sortNumber, sortNumbered, width}
 use Rattle.btor2.specs.Op.{Bin, add, sub, mul, udiv, sdiv, urem, sll, srl, ult, Op, const, read, write, bin, uext, ite, eq, and, or, not, state, stateInit, next, input, bad, unknown, mapOp, binSort}
 use Rattle.btor2_list.specs.declared.Line.{Line}
-use Rattle.btor2_list.specs.Record.{stride, lineAt}
+use Rattle.btor2_list.specs.Record.{stride, named, lineAt}
 use Rattle.btor2_list.specs.Node.{Node, withSort, opOf}
-use Rattle.word_text.specs.Words.{ascii}
+use Rattle.node_text.specs.Words.{ascii}
 use Rattle.node_text.specs.Row.{nameText, numbersText, written}
 use Rattle.record_text.specs.Line.{binWord, lineText, printedName}
 use Rattle.line_text.specs.Line.{nodes, nodeAt, nidAt, nodeText, runText}
@@ -32,7 +32,9 @@ use Rattle.record_text.proofs.KnownKinds.{of-kind, kind-unknown}
 use Rattle.line_text.proofs.Listed.{got}
 use Rattle.line_text.proofs.Runs.{run-none, run-on}
 use Rattle.print.specs.Printing.{nidsOut}
-use Rattle.print.specs.Room.{said, roomOf, rooms}
+use Rattle.list_check.specs.declared.Checked.the-variants.{Unformed, Unnamed, Named}
+use Rattle.list_check.specs.Scan.{scanUnformed, nameLength, scanLine}
+use Rattle.print.specs.Room.{said, roomOf, rooms, roomWith}
 use Rattle.print.proofs.Identifiers.{nid-most}
 
 -- ---- pieces
@@ -170,7 +172,7 @@ module _ (ws : List ℕ) (lines : ℕ) (host ours : List ℕ) (in-bounds : nidsO
 
 module _ (l : Line) where
   abbrev most : ℕ → ℕ
-  most k = cond (eqb k 19 || (eqb k 21 || eqb k 22)) (10 + l .name .len) 0
+  most k = cond (named k) (10 + l .name .len) 0
 
   sorted : (m : MaybeSort) (g : NodeType → Op ℕ) (n : ℕ) → ((s : NodeType) → roomOf (g s) ≤ n) → roomOf (withSort m g) ≤ n
   sorted (Sort s) g n h = h s
@@ -215,12 +217,18 @@ module _ (l : Line) where
       go (yes h) = rw (kind-unknown l h) (omega arith)
       go (no h) = at each (l .kind) (omega arith)
 
-  cond-most : (b : Bool) (n : ℕ) → cond b n 0 ≤ n
-  cond-most true n = omega arith
-  cond-most false n = omega arith
+-- what the check of a line finds tells whether it is well formed, and the room for its name
+module _ (ws : List ℕ) (i host ours names r : ℕ) where
+  abbrev line : Line
+  line = lineAt ws (i * stride)
 
-  pub room-any : roomOf (opOf l) ≤ 10 + l .name .len
-  room-any = omega (arith, room-most, cond-most (eqb (l .kind) 19 || (eqb (l .kind) 21 || eqb (l .kind) 22)) (10 + l .name .len))
+  by-kind : (b : Bool) → named (line .kind) ≡ b → roomWith (cond b (Named (line .name .len)) Unnamed) names r → names + roomOf (said ws i) ≤ r
+  by-kind true e h = omega (arith, rw e at (room-most line))
+  by-kind false e h = omega (arith, rw e at (room-most line))
 
-  pub room-none : (l .kind ≡ 19 → ⊥) → (l .kind ≡ 21 → ⊥) → (l .kind ≡ 22 → ⊥) → roomOf (opOf l) ≤ 0
-  room-none a b c = rw (ne-eqb (l .kind) 19 a, ne-eqb (l .kind) 21 b, ne-eqb (l .kind) 22 c) at room-most
+  pub told : roomWith (scanLine ws i host ours) names r → (scanUnformed ws i host ours ≡ false) × (names + roomOf (said ws i) ≤ r)
+  told h = go (scanUnformed ws i host ours) refl h
+    where
+      go : (b : Bool) → scanUnformed ws i host ours ≡ b → roomWith (cond b Unformed (nameLength line)) names r → (scanUnformed ws i host ours ≡ false) × (names + roomOf (said ws i) ≤ r)
+      go true e h = absurd h
+      go false e h = (e, by-kind (named (line .kind)) refl h)

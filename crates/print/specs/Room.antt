@@ -8,6 +8,8 @@ use lib.ListN.{length}
 use Rattle.btor2.specs.Op.{Op, const, read, write, bin, uext, ite, eq, and, or, not, state, stateInit, next, input, bad, unknown}
 use Rattle.btor2_list.specs.Record.{stride, lineAt}
 use Rattle.btor2_list.specs.Node.{opOf}
+use Rattle.list_check.specs.declared.Checked.{Checked}
+use Rattle.list_check.specs.declared.Checked.the-variants.{Unformed, Unnamed, Named}
 use Rattle.list_check.specs.Lines.{some, pastWords}
 use Rattle.list_check.specs.Formed.{opUnformed, unformedWords}
 use Rattle.list_check.specs.Operand.{noValueAt}
@@ -40,6 +42,12 @@ roomOf unknown = 0
 unfoldable pub rooms : List ℕ → ℕ → ℕ
 rooms ws zero = 0
 rooms ws (suc n) = rooms ws n + roomOf (said ws n)
+
+-- r is more than `names` by the room for the name of a line that the check finds so; one that is not well formed has none
+abbrev pub roomWith : Checked → ℕ → ℕ → Type 0
+roomWith Unformed names r = ⊥
+roomWith Unnamed names r = names ≤ r
+roomWith (Named len) names r = names + (10 + len) ≤ r
 
 -- 9 but for the identifiers
 abbrev pub runOut : List ℕ → ℕ → ℕ → ℕ → Bool

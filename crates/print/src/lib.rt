@@ -1,11 +1,12 @@
 // Prints a run of the list's lines into an output, or refuses.
 use btor2::NodeRef;
+use list_check::Checked;
 ghost use mathlib.Core.Path.{_≡_};
 ghost use mathlib.Core.Bool.{true};
 ghost use Prim.Native.Nat.{_+_, _-_, _/_, _^_, _<_, _≤_, min};
 ghost use lib.ListN.{length};
 ghost use Rattle.line_text.specs.Line.{nodes, runText};
-ghost use Rattle.print.specs.Room.{said, roomOf, runOut, Surveyed, Roomy};
+ghost use Rattle.print.specs.Room.{runOut, roomWith, Surveyed, Roomy};
 ghost use Rattle.print.specs.Printing.{nidsOut, boundsOut, answerOf, outcome, printing};
 
 // The most lines that a list holds, and the largest identifier of a line.
@@ -94,27 +95,23 @@ fn survey(list: &[u64], lines: usize, host: usize, ours: usize) -> usize
         if MOST_NID < list[at] / btor2_list::NID_UNIT {
             return LAST;
         }
-        if list_check::line_unformed(list, i, host, ours) {
+        names = with_name(list_check::check_line(list, i, host, ours), names);
+        if names == LAST {
             return LAST;
         }
-        names = name_room(list, i, names);
         i += 1;
     }
     names
 }
 
-// `names`, and the room for the name of line i where lines of its kind are named.
-fn name_room(list: &[u64], i: usize, names: usize) -> usize
-    requires { ⌜ i < length (now list) / 4 ⌝ }
-    ensures { λ r. ⌜ (r < 2 ^ 64 - 1 → names + roomOf (said (now (list .entry)) i) ≤ r) ⌝ }
+// `names`, and the room for the name of a line that the check finds so, or the largest number where it is not well formed.
+fn with_name(found: Checked, names: usize) -> usize
+    ensures { λ r. ⌜ (r < 2 ^ 64 - 1 → roomWith found names r) ⌝ }
 {
-    let at = i * btor2_list::STRIDE;
-    let kind = list[at + btor2_list::AT_HEAD] % btor2_list::BYTE;
-    match kind {
-        btor2_list::STATE => more(names, list[at + btor2_list::AT_NAME_LEN]),
-        btor2_list::INPUT => more(names, list[at + btor2_list::AT_NAME_LEN]),
-        btor2_list::BAD => more(names, list[at + btor2_list::AT_NAME_LEN]),
-        _ => names,
+    match found {
+        Checked::Unformed => LAST,
+        Checked::Unnamed => names,
+        Checked::Named(len) => more(names, len),
     }
 }
 

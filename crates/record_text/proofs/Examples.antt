@@ -7,7 +7,7 @@ use Rattle.btor2.specs.declared.NodeType.the-variants.{Bit, Word, Input3Byte}
 use Rattle.btor2.specs.Op.{ult, const, bin, uext, ite, not, stateInit, bad}
 use Rattle.btor2_list.specs.Node.{noName}
 use Rattle.text.specs.Numeral.{numeral}
-use Rattle.word_text.specs.Words.{ascii}
+use Rattle.node_text.specs.Words.{ascii}
 use Rattle.node_text.specs.Row.{written}
 use Rattle.record_text.specs.Line.{lineText, printedName}
 

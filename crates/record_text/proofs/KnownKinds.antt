@@ -16,7 +16,7 @@ use Rattle.btor2.specs.declared.Name.{Name}
 use Rattle.btor2.specs.Op.{Op, state, stateInit, unknown, mapOp}
 use Rattle.btor2_list.specs.declared.Line.{Line}
 use Rattle.btor2_list.specs.Node.{withSort, opOf}
-use Rattle.word_text.specs.Words.{word}
+use Rattle.node_text.specs.Words.{word}
 use Rattle.node_text.specs.Row.{written}
 use Rattle.record_text.specs.Line.{lineText, withOperands}
 

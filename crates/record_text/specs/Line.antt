@@ -9,7 +9,7 @@ use Rattle.btor2.specs.Sort.{sortNumber, width}
 use Rattle.btor2.specs.Op.{Bin, add, sub, mul, udiv, sdiv, urem, sll, srl, ult, Op, const, read, write, bin, uext, ite, eq, and, or, not, state, stateInit, next, input, bad, unknown, binSort}
 use Rattle.btor2_list.specs.declared.Line.{Line}
 use Rattle.btor2_name.specs.NameBytes.{nameBytes}
-use Rattle.word_text.specs.Words.{ascii}
+use Rattle.node_text.specs.Words.{ascii}
 use Rattle.node_text.specs.Row.{written}
 
 -- `writeln!(out, "{} WORD {} ..", nid, numbers ..)`, and with one number and a name

@@ -26,10 +26,8 @@ use btor2_list::STATE;
 use btor2_list::SUB;
 use btor2_list::ULT;
 use btor2_list::WRITE;
-use node_text::put_four;
 use node_text::put_named;
-use node_text::put_three;
-use node_text::put_two;
+use node_text::put_row;
 ghost use mathlib.Core.Path.{_≡_};
 ghost use mathlib.Core.Bool.{cond, true, false};
 ghost use lib.Dec.{eqb};
@@ -42,7 +40,7 @@ ghost use Rattle.btor2.specs.Op.{unknown};
 ghost use Rattle.btor2_list.specs.declared.Line.{Line};
 ghost use Rattle.btor2_list.specs.Node.{opOf};
 ghost use mathlib.Core.List.{[], _∷_, _++_};
-ghost use Rattle.word_text.specs.Words.{word};
+ghost use Rattle.node_text.specs.Words.{word};
 ghost use Rattle.node_text.specs.Row.{written};
 ghost use Rattle.record_text.specs.OwnSort.{ownSort};
 ghost use Rattle.record_text.specs.Line.{lineText, printedName, withOperands};
@@ -89,24 +87,24 @@ fn put_known<'a>(
     let start = line.name.at;
     let len = line.name.len;
     match kind {
-        CONST => put_two(out, at, nid, k, sort, line.imm),
-        READ => put_three(out, at, nid, k, 2, a.0, b.0),
-        WRITE => put_four(out, at, nid, k, 3, a.0, b.0, c.0),
-        ADD => put_three(out, at, nid, k, 2, a.0, b.0),
-        SUB => put_three(out, at, nid, k, 2, a.0, b.0),
-        MUL => put_three(out, at, nid, k, 2, a.0, b.0),
-        DIVU => put_three(out, at, nid, k, 2, a.0, b.0),
-        DIV => put_three(out, at, nid, k, 2, a.0, b.0),
-        REM => put_three(out, at, nid, k, 2, a.0, b.0),
-        SLL => put_three(out, at, nid, k, 2, a.0, b.0),
-        SRL => put_three(out, at, nid, k, 2, a.0, b.0),
-        ULT => put_three(out, at, nid, k, 1, a.0, b.0),
-        EXT => put_three(out, at, nid, k, 2, a.0, padding(sort)),
-        ITE => put_four(out, at, nid, k, sort, a.0, b.0, c.0),
-        EQ => put_three(out, at, nid, k, 1, a.0, b.0),
-        AND => put_three(out, at, nid, k, sort, a.0, b.0),
-        OR => put_three(out, at, nid, k, sort, a.0, b.0),
-        NOT => put_two(out, at, nid, k, sort, a.0),
+        CONST => put_row(out, at, nid, k, sort, 1, line.imm, 0, 0),
+        READ => put_row(out, at, nid, k, 2, 2, a.0, b.0, 0),
+        WRITE => put_row(out, at, nid, k, 3, 3, a.0, b.0, c.0),
+        ADD => put_row(out, at, nid, k, 2, 2, a.0, b.0, 0),
+        SUB => put_row(out, at, nid, k, 2, 2, a.0, b.0, 0),
+        MUL => put_row(out, at, nid, k, 2, 2, a.0, b.0, 0),
+        DIVU => put_row(out, at, nid, k, 2, 2, a.0, b.0, 0),
+        DIV => put_row(out, at, nid, k, 2, 2, a.0, b.0, 0),
+        REM => put_row(out, at, nid, k, 2, 2, a.0, b.0, 0),
+        SLL => put_row(out, at, nid, k, 2, 2, a.0, b.0, 0),
+        SRL => put_row(out, at, nid, k, 2, 2, a.0, b.0, 0),
+        ULT => put_row(out, at, nid, k, 1, 2, a.0, b.0, 0),
+        EXT => put_row(out, at, nid, k, 2, 2, a.0, padding(sort), 0),
+        ITE => put_row(out, at, nid, k, sort, 3, a.0, b.0, c.0),
+        EQ => put_row(out, at, nid, k, 1, 2, a.0, b.0, 0),
+        AND => put_row(out, at, nid, k, sort, 2, a.0, b.0, 0),
+        OR => put_row(out, at, nid, k, sort, 2, a.0, b.0, 0),
+        NOT => put_row(out, at, nid, k, sort, 1, a.0, 0, 0),
         STATE => put_state(
             out,
             at,
@@ -120,7 +118,7 @@ fn put_known<'a>(
             start,
             len,
         ),
-        NEXT => put_three(out, at, nid, k, sort, a.0, b.0),
+        NEXT => put_row(out, at, nid, k, sort, 2, a.0, b.0, 0),
         INPUT => put_name(out, at, nid, k, sort, host, ours, area, start, len),
         BAD => put_name(out, at, nid, k, a.0, host, ours, area, start, len),
         _ => at,
@@ -241,5 +239,5 @@ fn put_state<'a>(
         return p;
     }
     let next = std::num::wrapping_add_u64(nid, 1);
-    put_three(out, p, next, 0, sort, nid, init)
+    put_row(out, p, next, 0, sort, 2, nid, init, 0)
 }

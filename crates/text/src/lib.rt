@@ -2,7 +2,7 @@
 // all the same, capped at the largest number.
 ghost use mathlib.Core.Path.{_≡_};
 ghost use mathlib.Core.List.{[], _∷_};
-ghost use Prim.Native.Nat.{_<_, _≤_};
+ghost use Prim.Native.Nat.{_+_, _-_, _^_, _<_, _≤_, min};
 ghost use lib.ListN.{length};
 ghost use Rattle.text.specs.Numeral.{glyph, numeral, decimalText, hexText};
 ghost use Rattle.text.specs.Put.{Put};
@@ -27,6 +27,9 @@ pub fn put_byte(out: &mut [u8], at: usize, b: u8) -> usize
 pub fn put_bytes(out: &mut [u8], at: usize, s: &[u8]) -> usize
     ensures { λ r. ⌜ Put (now (out .entry)) at (now (s .entry)) (now (out .exit)) r ⌝ }
 {
+    if out.len() <= at {
+        return behind(at, s.len());
+    }
     let mut p = at;
     let mut i = 0;
     while i < s.len() {
@@ -34,6 +37,16 @@ pub fn put_bytes(out: &mut [u8], at: usize, s: &[u8]) -> usize
         i += 1;
     }
     p
+}
+
+// The place n behind another, capped at the largest.
+fn behind(at: usize, n: usize) -> usize
+    ensures { λ r. ⌜ r ≡ min (at + n) (2 ^ 64 - 1) ⌝ }
+{
+    if LAST - at < n {
+        return LAST;
+    }
+    at + n
 }
 
 // A digit in ASCII.

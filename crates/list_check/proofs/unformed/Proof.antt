@@ -35,14 +35,14 @@ returns-2 c =
     let told = recorded (now (a .list)) (l .loop .i) (a .host) (a .ours) (reached (now (a .list)) (l .loop .i) (a .host) (a .ours) (omega arith) (l .loop .inv .2)) in
     rw (le-ltb (length (now (a .list)) / stride) (a .lines) (l .loop .inv .0))
     (sym (by-records (now (a .list)) (a .lines) (l .loop .inv .0) (a .host) (a .ours)
-    ∙ some-hit (a .lines) (recordUnformed (a .host) (a .ours) (now (a .list))) (l .loop .i) (omega arith) (sym told ∙ sym (c .before .record-unformed .ensures) ∙ c .if2 .taken)))
+    ∙ some-hit (a .lines) (recordUnformed (a .host) (a .ours) (now (a .list))) (l .loop .i) (omega arith) (sym told ∙ sym (c .before .unformed-by-kind .ensures) ∙ c .if2 .taken)))
 
 loop-again : tie.Need-loop-again Inv-loop μ-loop
 loop-again c =
     let l = c .before .before .before in
     let a = l .before .before .before .args in
     let told = recorded (now (a .list)) (l .loop .i) (a .host) (a .ours) (reached (now (a .list)) (l .loop .i) (a .host) (a .ours) (omega arith) (l .loop .inv .2)) in
-    (l .loop .inv .0, omega arith, some-on (l .loop .i) (recordUnformed (a .host) (a .ours) (now (a .list))) (l .loop .inv .2) (sym told ∙ sym (c .before .record-unformed .ensures) ∙ c .if2 .left))
+    (l .loop .inv .0, omega arith, some-on (l .loop .i) (recordUnformed (a .host) (a .ours) (now (a .list))) (l .loop .inv .2) (sym told ∙ sym (c .before .unformed-by-kind .ensures) ∙ c .if2 .left))
 
 returns-3 : tie.Need-returns-3 Inv-loop μ-loop
 returns-3 c =

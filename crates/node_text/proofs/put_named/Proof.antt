@@ -1,7 +1,7 @@
 -- The pieces of the row. Assumes nothing.
 use denote.Ref.{now}
 use Rattle.text.proofs.Laws.{then, put-as}
-use Rattle.word_text.specs.Words.{word}
+use Rattle.node_text.specs.Words.{word}
 use Rattle.node_text.proofs.Rows.{named-row}
 use borrow.Author.Needs.{needs}
 use Rattle.node_text.proofs.put_named.Statement.{statement}

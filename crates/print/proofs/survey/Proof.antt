@@ -13,7 +13,7 @@ use Rattle.list_check.proofs.Scan.{reached, scanned}
 use Rattle.line_text.proofs.Listed.{nid-inside}
 use Rattle.print.specs.Printing.{nidOut}
 use Rattle.print.specs.Room.{said, rooms, Surveyed}
-use Rattle.print.proofs.Rooms.{rooms-suc}
+use Rattle.print.proofs.Rooms.{rooms-suc, told}
 use borrow.Author.Needs.{needs}
 use Rattle.print.proofs.survey.Statement.{statement}
 use Rattle.print.proofs.survey.Tie as tie
@@ -43,9 +43,6 @@ returns c h = absurd (omega arith)
 returns-2 : tie.Need-returns-2 Inv-loop μ-loop
 returns-2 c h = absurd (omega arith)
 
-name-room-requires : tie.Need-name-room-requires Inv-loop μ-loop
-name-room-requires c κs = search needs
-
 add-i : tie.Need-add-i Inv-loop μ-loop
 add-i c = search needs
 
@@ -54,17 +51,20 @@ loop-less c = search needs
 
 loop-again : tie.Need-loop-again Inv-loop μ-loop
 loop-again c =
-    let f = c .before in
-    let e = f .before .before in
+    let w = c .before in
+    let k = w .before in
+    let e = k .before in
     let l = e .before .before .before in
     let a = l .before .before .args in
     let ws = now (a .list) in
     let inv = l .loop .inv in
-    let told = scanned ws (l .loop .i) (a .host) (a .ours) (reached ws (l .loop .i) (a .host) (a .ours) (omega arith) (inv .2)) in (
+    let on = scanned ws (l .loop .i) (a .host) (a .ours) (reached ws (l .loop .i) (a .host) (a .ours) (omega arith) (inv .2)) in
+    let below : w .with-name .result < 2 ^ 64 - 1 = omega (arith, c .if2 .left) in
+    let found = told ws (l .loop .i) (a .host) (a .ours) (l .loop .names) (w .with-name .result) (rw (k .check-line .ensures) at (w .with-name .ensures below)) in (
       omega arith,
       some-on (l .loop .i) _ (inv .1) (rw (← nid-inside ws (a .lines) (l .loop .i) (omega arith) (omega arith)) (le-ltb _ _ (e .if1 .left))),
-      some-on (l .loop .i) _ (inv .2) (sym told ∙ sym (f .before .line-unformed .ensures) ∙ f .if2 .left),
-      λ h. let fits = c .name-room .ensures h in omega (arith, rooms-suc ws (l .loop .i), inv .3 (omega arith)),
+      some-on (l .loop .i) _ (inv .2) (sym on ∙ found .0),
+      λ h. omega (arith, found .1, rooms-suc ws (l .loop .i), inv .3 (omega arith)),
     )
 
 returns-3 : tie.Need-returns-3 Inv-loop μ-loop
@@ -79,4 +79,4 @@ returns-3 c h =
 pub survey-spec : {M : Type 1} → statement M
 survey-spec =
     tie.close
-    (tie.spec Inv-loop μ-loop loop-holds mul-at mul-if1 shared-slice-read-if1 returns (λ c κs. search needs) returns-2 name-room-requires add-i loop-less loop-again returns-3)
+    (tie.spec Inv-loop μ-loop loop-holds mul-at mul-if1 shared-slice-read-if1 returns (λ c κs. search needs) (λ c κs. search needs) returns-2 add-i loop-less loop-again returns-3)

@@ -1,7 +1,7 @@
 -- Each kind's clause; past the last kind there is no text. Assumes nothing.
 use denote.Ref.{now}
 use native.Mathlib.Omega.{arith}
-use Rattle.word_text.proofs.Table.{beyond}
+use Rattle.node_text.proofs.Table.{beyond}
 use Rattle.text.proofs.Laws.{nothing, put-as}
 use Rattle.btor2_list.specs.Node.{opOf}
 use Rattle.record_text.specs.Line.{lineText, printedName, withOperands}
@@ -17,51 +17,51 @@ returns c =
     let m = q .before .before in
     let s = m .before .before .before .before in
     let sort = s .pre (rw (m .match .keys1)) in
-    put-as (q .put-two .ensures) (rw (m .match .keys1, sort .1, number-of (sort .0) (s .args .line .sort) (sort .1)))
+    put-as (q .put-row .ensures) (rw (m .match .keys1, sort .1, number-of (sort .0) (s .args .line .sort) (sort .1)))
 
 returns-2 : tie.Need-returns-2
 unfolding opOf lineText
-returns-2 c = let q = c .before .before in put-as (q .put-three .ensures) (rw (q .before .before .match .keys2))
+returns-2 c = let q = c .before .before in put-as (q .put-row2 .ensures) (rw (q .before .before .match .keys2))
 
 returns-3 : tie.Need-returns-3
 unfolding opOf lineText
-returns-3 c = let q = c .before .before in put-as (q .put-four .ensures) (rw (q .before .before .match .keys3))
+returns-3 c = let q = c .before .before in put-as (q .put-row3 .ensures) (rw (q .before .before .match .keys3))
 
 returns-4 : tie.Need-returns-4
 unfolding opOf lineText
-returns-4 c = let q = c .before .before in put-as (q .put-three2 .ensures) (rw (q .before .before .match .keys4))
+returns-4 c = let q = c .before .before in put-as (q .put-row4 .ensures) (rw (q .before .before .match .keys4))
 
 returns-5 : tie.Need-returns-5
 unfolding opOf lineText
-returns-5 c = let q = c .before .before in put-as (q .put-three3 .ensures) (rw (q .before .before .match .keys5))
+returns-5 c = let q = c .before .before in put-as (q .put-row5 .ensures) (rw (q .before .before .match .keys5))
 
 returns-6 : tie.Need-returns-6
 unfolding opOf lineText
-returns-6 c = let q = c .before .before in put-as (q .put-three4 .ensures) (rw (q .before .before .match .keys6))
+returns-6 c = let q = c .before .before in put-as (q .put-row6 .ensures) (rw (q .before .before .match .keys6))
 
 returns-7 : tie.Need-returns-7
 unfolding opOf lineText
-returns-7 c = let q = c .before .before in put-as (q .put-three5 .ensures) (rw (q .before .before .match .keys7))
+returns-7 c = let q = c .before .before in put-as (q .put-row7 .ensures) (rw (q .before .before .match .keys7))
 
 returns-8 : tie.Need-returns-8
 unfolding opOf lineText
-returns-8 c = let q = c .before .before in put-as (q .put-three6 .ensures) (rw (q .before .before .match .keys8))
+returns-8 c = let q = c .before .before in put-as (q .put-row8 .ensures) (rw (q .before .before .match .keys8))
 
 returns-9 : tie.Need-returns-9
 unfolding opOf lineText
-returns-9 c = let q = c .before .before in put-as (q .put-three7 .ensures) (rw (q .before .before .match .keys9))
+returns-9 c = let q = c .before .before in put-as (q .put-row9 .ensures) (rw (q .before .before .match .keys9))
 
 returns-10 : tie.Need-returns-10
 unfolding opOf lineText
-returns-10 c = let q = c .before .before in put-as (q .put-three8 .ensures) (rw (q .before .before .match .keys10))
+returns-10 c = let q = c .before .before in put-as (q .put-row10 .ensures) (rw (q .before .before .match .keys10))
 
 returns-11 : tie.Need-returns-11
 unfolding opOf lineText
-returns-11 c = let q = c .before .before in put-as (q .put-three9 .ensures) (rw (q .before .before .match .keys11))
+returns-11 c = let q = c .before .before in put-as (q .put-row11 .ensures) (rw (q .before .before .match .keys11))
 
 returns-12 : tie.Need-returns-12
 unfolding opOf lineText
-returns-12 c = let q = c .before .before in put-as (q .put-three10 .ensures) (rw (q .before .before .match .keys12))
+returns-12 c = let q = c .before .before in put-as (q .put-row12 .ensures) (rw (q .before .before .match .keys12))
 
 returns-13 : tie.Need-returns-13
 unfolding opOf lineText
@@ -71,7 +71,7 @@ returns-13 c =
     let m = p .before .before in
     let s = m .before .before .before .before in
     let sort = s .pre (rw (m .match .keys13)) in
-    put-as (q .put-three11 .ensures) (rw (m .match .keys13, sort .1, p .padding .ensures (sort .0) (sort .1)))
+    put-as (q .put-row13 .ensures) (rw (m .match .keys13, sort .1, p .padding .ensures (sort .0) (sort .1)))
 
 returns-14 : tie.Need-returns-14
 unfolding opOf lineText
@@ -80,11 +80,11 @@ returns-14 c =
     let m = q .before .before in
     let s = m .before .before .before .before in
     let sort = s .pre (rw (m .match .keys14)) in
-    put-as (q .put-four2 .ensures) (rw (m .match .keys14, sort .1, number-of (sort .0) (s .args .line .sort) (sort .1)))
+    put-as (q .put-row14 .ensures) (rw (m .match .keys14, sort .1, number-of (sort .0) (s .args .line .sort) (sort .1)))
 
 returns-15 : tie.Need-returns-15
 unfolding opOf lineText
-returns-15 c = let q = c .before .before in put-as (q .put-three12 .ensures) (rw (q .before .before .match .keys15))
+returns-15 c = let q = c .before .before in put-as (q .put-row15 .ensures) (rw (q .before .before .match .keys15))
 
 returns-16 : tie.Need-returns-16
 unfolding opOf lineText
@@ -93,7 +93,7 @@ returns-16 c =
     let m = q .before .before in
     let s = m .before .before .before .before in
     let sort = s .pre (rw (m .match .keys16)) in
-    put-as (q .put-three13 .ensures) (rw (m .match .keys16, sort .1, number-of (sort .0) (s .args .line .sort) (sort .1)))
+    put-as (q .put-row16 .ensures) (rw (m .match .keys16, sort .1, number-of (sort .0) (s .args .line .sort) (sort .1)))
 
 returns-17 : tie.Need-returns-17
 unfolding opOf lineText
@@ -102,7 +102,7 @@ returns-17 c =
     let m = q .before .before in
     let s = m .before .before .before .before in
     let sort = s .pre (rw (m .match .keys17)) in
-    put-as (q .put-three14 .ensures) (rw (m .match .keys17, sort .1, number-of (sort .0) (s .args .line .sort) (sort .1)))
+    put-as (q .put-row17 .ensures) (rw (m .match .keys17, sort .1, number-of (sort .0) (s .args .line .sort) (sort .1)))
 
 returns-18 : tie.Need-returns-18
 unfolding opOf lineText
@@ -111,7 +111,7 @@ returns-18 c =
     let m = q .before .before in
     let s = m .before .before .before .before in
     let sort = s .pre (rw (m .match .keys18)) in
-    put-as (q .put-two2 .ensures) (rw (m .match .keys18, sort .1, number-of (sort .0) (s .args .line .sort) (sort .1)))
+    put-as (q .put-row18 .ensures) (rw (m .match .keys18, sort .1, number-of (sort .0) (s .args .line .sort) (sort .1)))
 
 returns-19 : tie.Need-returns-19
 returns-19 c =
@@ -130,7 +130,7 @@ returns-20 c =
     let m = q .before .before in
     let s = m .before .before .before .before in
     let sort = s .pre (rw (m .match .keys20)) in
-    put-as (q .put-three15 .ensures) (rw (m .match .keys20, sort .1, number-of (sort .0) (s .args .line .sort) (sort .1)))
+    put-as (q .put-row19 .ensures) (rw (m .match .keys20, sort .1, number-of (sort .0) (s .args .line .sort) (sort .1)))
 
 returns-21 : tie.Need-returns-21
 unfolding opOf lineText

@@ -16,7 +16,7 @@ returns-2 c =
     let e = w .before in
     let m = e .before .before .before in
     let s = m .before .before .before .before .before in
-    put-as (then (s .good .0 .0) (m .put-name .ensures) (q .put-three .ensures)) (rw (ne-eqb _ _ (e .if1 .left), w .wrapping-add-u64 .ensures))
+    put-as (then (s .good .0 .0) (m .put-name .ensures) (q .put-row .ensures)) (rw (ne-eqb _ _ (e .if1 .left), w .wrapping-add-u64 .ensures))
 
 pub put-state-spec : {M : Type 1} → statement M
 put-state-spec = tie.close (tie.spec (λ c κs. search needs) (λ c. search needs) returns (λ c κs. search needs) (λ c κs. search needs) (λ c. search needs) returns-2)
