@@ -10,7 +10,7 @@ use Rattle.btor2.specs.declared.NodeType.{NodeType}
 use Rattle.btor2.specs.Sort.{sortNumber}
 use Rattle.btor2.specs.Op.{Bin, add, sub, mul, udiv, sdiv, urem, sll, srl, ult, Op, const, read, write, bin, uext, ite, eq, and, or, not, state, stateInit, next, input, bad, unknown, binSort}
 use Rattle.btor2.proofs.Sort.{number-small}
-use Rattle.btor2_list.specs.Node.{row, noName, binKind, lineOf}
+use Rattle.btor2_list.specs.Node.{row, binKind, lineOf}
 use Rattle.btor2_list.proofs.Stored.{Fits}
 
 -- the area of a line's name has one byte

@@ -1,17 +1,13 @@
--- Past the last word there is none, and no word with its spaces is longer than eight bytes. Assumes nothing.
+-- Past the last word there is none; and what is put into an array is read back. Assumes nothing.
 use Prim.Native.Nat.{ℕ, suc, _+_, _^_, _≤_, _<_}
 use mathlib.Core.Path.{_≡_, ap}
-use mathlib.Core.Bool.{Bool}
 use mathlib.Core.List.{List, [], append-assoc}
-use native.Mathlib.Decide.{decLe}
 use native.Mathlib.Omega.{arith}
-use lib.Dec.{leb, leb→le}
 use lib.ListN.{length, take, drop, List·getD-eq-default}
 use lib.Seq.{take-append-seam}
-use Rattle.bitvec.proofs.Below.{at}
 use Rattle.text.specs.Put.{Put}
 use Rattle.text.proofs.Laws.{put-is}
-use Rattle.node_text.specs.Words.{ascii, words, word, spaced}
+use Rattle.node_text.specs.Words.{ascii, words, word}
 
 pub past : (k : ℕ) → 23 ≤ k → word k ≡ []
 past k h = ap ascii (List·getD-eq-default words "" h)
@@ -20,19 +16,8 @@ past k h = ap ascii (List·getD-eq-default words "" h)
 pub beyond : {n k : ℕ} → n ≤ k → (k ≡ n → ⊥) → suc n ≤ k
 beyond h e = omega arith
 
-short : ℕ → Bool
-short k = leb (length (spaced (word k))) 8
-
-pub longest : (k : ℕ) → length (spaced (word k)) ≤ 8
-unfolding short
-longest k = go (decLe 23 k)
-  where
-    go : Dec (23 ≤ k) → length (spaced (word k)) ≤ 8
-    go (yes h) = rw (past k h) (omega arith)
-    go (no h) = leb→le (length (spaced (word k))) 8 (at 23 short tt k (omega arith))
-
 -- a piece at the start of an output with room for it is read back
-pub read-back : {l l′ s : List ℕ} {r : ℕ} → Put l 0 s l′ r → length s ≤ length l → length s < 2 ^ 63 → (r ≡ length s) × (take r l′ ≡ s)
+pub read-back : {l l′ s : List ℕ} {r : ℕ} → Put l 0 s l′ r → r ≤ length l → length l < 2 ^ 63 → (r ≡ length s) × (take r l′ ≡ s)
 read-back {l} {l′} {s} {r} u h k =
     let e : r ≡ length s = omega (arith, u .next) in
     (e, rw (put-is u (omega arith), e) (rw append-assoc (take-append-seam s (drop (0 + length s) l))))

@@ -50,7 +50,8 @@ pub fn put_named(out: &mut [u8], at: usize, nid: u64, k: usize, a: u64, name: &[
     text::put_byte(out, named, 10)
 }
 
-// The same, in front of a name: few lines have one, so it is put by way of an array, with no test of room.
+// What stands in front of a name: few lines have one, so that it is put by way of an array, with no test of room. Why it does not call
+// `head_in`, docs/DECISIONS.md says.
 fn put_head(out: &mut [u8], at: usize, nid: u64, k: usize, a: u64) -> usize
     ensures { λ r. ⌜ Put (now (out .entry)) at (decimalText nid ++ spaced (word k) ++ decimalText a) (now (out .exit)) r ⌝ }
 {

@@ -1,6 +1,6 @@
 // The words of node lines as text. A word stands between an identifier and a number, so it is put with the spaces around it.
-ghost use mathlib.Core.List.{[], _∷_, _++_};
-ghost use Prim.Native.Nat.{_+_, _<_, _≤_};
+ghost use mathlib.Core.List.{[], _∷_};
+ghost use Prim.Native.Nat.{_+_, _≤_};
 ghost use lib.ListN.{length};
 ghost use Rattle.text.specs.Put.{Put};
 ghost use Rattle.node_text.specs.Words.{word, spaced};

@@ -1,5 +1,4 @@
 -- By the kind. Assumes nothing.
-use mathlib.Core.Path.{sym, _∙_}
 use Rattle.btor2_list.specs.Record.{lineAt}
 use borrow.Author.Needs.{needs}
 use Rattle.list_check.proofs.name_len.Statement.{statement}

@@ -1,7 +1,6 @@
 -- The pieces in an array of their own, and from there. Assumes nothing.
-use Prim.Native.Nat.{_^_, _≤_, _<_}
 use native.Mathlib.Omega.{arith}
-use Rattle.text.proofs.Laws.{then, put-as, put-length}
+use Rattle.text.proofs.Laws.{then, put-as}
 use Rattle.node_text.proofs.Table.{read-back}
 use borrow.Author.Needs.{needs}
 use Rattle.node_text.proofs.put_head.Statement.{statement}
@@ -13,8 +12,7 @@ slice-aggregate-put-bytes c =
     let q = r .before .before .before in
     let p = q .before .before .before in
     let all = then (omega arith) (then (omega arith) (p .put-in .ensures .0) (q .put-word-in .ensures .0)) (r .put-in2 .ensures .0) in
-    let back = read-back all (omega (arith, r .put-in2 .ensures .1, q .put-word-in .ensures .1, p .put-in .ensures .1, all .next)) (omega (arith, r .put-in2 .ensures .1, q .put-word-in .ensures .1, p .put-in .ensures .1, all .next)) in
-    rw (back .1) (back .0)
+    let back = read-back all (omega (arith, p .put-in .ensures .1, q .put-word-in .ensures .1, r .put-in2 .ensures .1)) (omega arith) in rw (back .1) (back .0)
 
 returns : tie.Need-returns
 returns c =
@@ -23,7 +21,9 @@ returns c =
     let q = r .before .before .before in
     let p = q .before .before .before in
     let all = then (omega arith) (then (omega arith) (p .put-in .ensures .0) (q .put-word-in .ensures .0)) (r .put-in2 .ensures .0) in
-    put-as (b .put-bytes .ensures) (read-back all (omega (arith, r .put-in2 .ensures .1, q .put-word-in .ensures .1, p .put-in .ensures .1, all .next)) (omega (arith, r .put-in2 .ensures .1, q .put-word-in .ensures .1, p .put-in .ensures .1, all .next)) .1)
+    put-as (b .put-bytes .ensures) (read-back all (omega (arith, p .put-in .ensures .1, q .put-word-in .ensures .1, r .put-in2 .ensures .1)) (omega arith) .1)
 
 pub put-head-spec : {M : Type 1} → statement M
-put-head-spec = tie.close (tie.spec (λ c. search needs) (λ c κs. search needs) (λ c. search needs) (λ c κs. search needs) (λ c. search needs) (λ c κs. search needs) (λ c. search needs) slice-aggregate-put-bytes (λ c κs. search needs) (λ c. search needs) returns)
+put-head-spec =
+    tie.close
+    (tie.spec (λ c. search needs) (λ c κs. search needs) (λ c. search needs) (λ c κs. search needs) (λ c. search needs) (λ c κs. search needs) (λ c. search needs) slice-aggregate-put-bytes (λ c κs. search needs) (λ c. search needs) returns)
