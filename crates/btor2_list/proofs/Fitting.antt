@@ -1,7 +1,7 @@
 -- The numbers of a line fit the fields of its record, where its identifier and the area of its name do. Assumes nothing.
 use Prim.Native.Nat.{ℕ, _^_, _<_}
 use mathlib.Core.Path.{_≡_}
-use mathlib.Core.Bool.{Bool, true, cond}
+use mathlib.Core.Bool.{Bool, true, false, cond}
 use native.Mathlib.Omega.{arith}
 use borrow.Author.Tests.{ltb-true}
 use lib.Dec.{ltb, eqb, lit≤}
@@ -46,16 +46,9 @@ kind-fits sll = lit≤ tt
 kind-fits srl = lit≤ tt
 kind-fits ult = lit≤ tt
 
-no-init : (o : Bin) → cond (eqb (binKind o) 19) 0 0 < 256
-no-init add = lit≤ tt
-no-init sub = lit≤ tt
-no-init mul = lit≤ tt
-no-init udiv = lit≤ tt
-no-init sdiv = lit≤ tt
-no-init urem = lit≤ tt
-no-init sll = lit≤ tt
-no-init srl = lit≤ tt
-no-init ult = lit≤ tt
+no-init : (b : Bool) → cond b 0 0 < 256
+no-init true = lit≤ tt
+no-init false = lit≤ tt
 
 module _ (nid : ℕ) (h : nid < 2 ^ 32) where
   fits : {kind sort a b c imm : ℕ} {m : Name} → kind < 256 → sort < 256 → m .area < 256 → cond (eqb kind 19) imm 0 < 256 → Fits (row nid kind sort a b c imm m)
@@ -66,7 +59,7 @@ module _ (nid : ℕ) (h : nid < 2 ^ 32) where
   line-fits (const s n) e = fits (lit≤ tt) (sort-fits s) (lit≤ tt) (lit≤ tt)
   line-fits (read m a) e = fits (lit≤ tt) (lit≤ tt) (lit≤ tt) (lit≤ tt)
   line-fits (write m a v) e = fits (lit≤ tt) (lit≤ tt) (lit≤ tt) (lit≤ tt)
-  line-fits (bin o a b) e = fits (kind-fits o) (sort-fits (binSort o)) (lit≤ tt) (no-init o)
+  line-fits (bin o a b) e = fits (kind-fits o) (sort-fits (binSort o)) (lit≤ tt) (no-init (eqb (binKind o) 19))
   line-fits (uext s a) e = fits (lit≤ tt) (sort-fits s) (lit≤ tt) (lit≤ tt)
   line-fits (ite s c a b) e = fits (lit≤ tt) (sort-fits s) (lit≤ tt) (lit≤ tt)
   line-fits (eq a b) e = fits (lit≤ tt) (lit≤ tt) (lit≤ tt) (lit≤ tt)

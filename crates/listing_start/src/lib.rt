@@ -14,7 +14,8 @@ pub const FLAG: usize = 38;
 // 39 records of four words.
 const WORDS: usize = 156;
 
-// Identifier, init's mark, name's area, sort and kind; the value of a Const; the place and the length of the name of a State.
+// Of each record the first word, byte by byte (identifier, init's mark, name's area, sort, kind), then the value of a Const, and the place and
+// the length of a State's name.
 const START: [u64; 156] = [
     0x14_00_00_01_01,
     0,
