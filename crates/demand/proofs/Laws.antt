@@ -50,6 +50,6 @@ nodes-kept h (c ∷ cs) j l = nodes-kept (step h c) cs j l ∙ node-step h c j l
 pub register-node-step : (h : Held) (c : Call) (r : ℕ) → registerNode (step h c .state .roles) r ≡ registerNode (h .state .roles) r
 register-node-step h c r = go (ltb 31 r) refl
   where
-    go : (t : Bool) → ltb 31 r ≡ t → cond t (role (step h c .state .roles) 7) (role (step h c .state .roles) (7 + r)) ≡ cond t (role (h .state .roles) 7) (role (h .state .roles) (7 + r))
+    go : (t : Bool) → ltb 31 r ≡ t → role (step h c .state .roles) (cond t 7 (7 + r)) ≡ role (h .state .roles) (cond t 7 (7 + r))
     go true e = node-step h c 7 (omega arith)
     go false e = node-step h c (7 + r) (omega (arith, ltb-false 31 r e))

@@ -10,11 +10,11 @@ use lib.Dec.{T, eqb}
 use lib.ListN.{length}
 use Rattle.btor2.specs.SortRule.{meetsSortRule}
 use Rattle.btor2.specs.Value.{Value, Env, value}
-use Rattle.instruction_class.specs.Class.{class, needsFlag}
+use Rattle.instruction_class.specs.Class.{needsFlag}
 use Rattle.riscv.specs.Kind.{Kind, kindAt}
 use Rattle.riscv.specs.Manual.{Effect, nothing, setsRd, setsMemory, manual}
 use Rattle.riscv.specs.Memory.{bytesOf, cellsWith}
-use Rattle.roles.specs.Roles.{role, registerNode, registerFlow}
+use Rattle.roles.specs.Roles.{memoryNode, memoryFlow, roleCount, lastRegister, role, registerNode, registerFlow}
 use Rattle.lowering_refusals.specs.Refusal.{roomOf}
 use Rattle.start.specs.Start.{startRefusal}
 use Rattle.meaning.specs.Access.{InOneWord, excluded}
@@ -31,7 +31,7 @@ pub record AcceptedStart (h : Held) : Type 0 where
   pub bads : List ℕ
   pub accepts : startRefusal (h .list) (length host) (roomOf (length (h .list)) (length (h .names)) (length edges) (length dispatches) (length bads)) (h .state) ≡ 0
   -- what the code's type of the roles gives: an array of 79
-  pub given : length (h .state .roles) ≡ 79
+  pub given : length (h .state .roles) ≡ roleCount
 
 -- "any records": an immediate is a word of 64 bits
 abbrev pub Records : List Call → Type 0
@@ -46,25 +46,25 @@ abbrev pub NoneExcluded : Held → List Call → Type 0
 NoneExcluded h [] = Unit {0}
 NoneExcluded h (lower c ∷ cs) = (T (accepted h c) → T (not (excluded (kindOf c)))) × NoneExcluded (step h (lower c)) cs
 
--- ---- values: "A line's value is BTOR2's for given states and inputs, no init or Next used"; roles 4 and 70 are the memory node and its flow
+-- ---- values: "A line's value is BTOR2's for given states and inputs, no init or Next used"
 
 module _ (env : Env) where
   unfoldable pub registerNodeValue : Held → ℕ → ℕ
   registerNodeValue h r = value env (linesIn h) (registerNode (h .state .roles) r .0) .num
 
   unfoldable pub memoryNodeValue : Held → ℕ → ℕ
-  memoryNodeValue h = value env (linesIn h) (role (h .state .roles) 4 .0) .mem
+  memoryNodeValue h = value env (linesIn h) (role (h .state .roles) memoryNode .0) .mem
 
   unfoldable pub registerFlowValue : Held → ℕ → ℕ
   registerFlowValue h r = value env (linesIn h) (registerFlow (h .state .roles) r .0) .num
 
   unfoldable pub memoryFlowValue : Held → ℕ → ℕ
-  memoryFlowValue h = value env (linesIn h) (role (h .state .roles) 70 .0) .mem
+  memoryFlowValue h = value env (linesIn h) (role (h .state .roles) memoryFlow .0) .mem
 
 -- "a flag is true at value 1, and one not needed isn't counted": the accepted calls that need a flag which is true, where the places of the
 -- list have the values v
 abbrev pub needsItsFlag : Request → Bool
-needsItsFlag c = needsFlag (class (kindOf c)) (eqb (c .instruction .rd) 0) (eqb (c .instruction .rs1) 0)
+needsItsFlag c = needsFlag (kindOf c) (eqb (c .instruction .rd) 0) (eqb (c .instruction .rs1) 0)
 
 abbrev pub isTrue : (ℕ → Value) → Held → Request → Bool
 isTrue v h c = accepted h c && (needsItsFlag c && eqb (v (c .flag .0) .num) 1)
@@ -76,7 +76,7 @@ trueCalls v h (lower c ∷ cs) = cond (isTrue v h c) (c ∷ trueCalls v (step h 
 -- ---- the manual's values: "Of the register and memory flows, a store writes the memory flow, a branch or Ecall none, and any other of the 50
 -- rd's alone, or none where rd is x0"
 
--- register r, from 1 to 31, and the word of memory at address a; `before` is the flow's value before
+-- register r, from x1 to x31, and the word of memory at address a; `before` is the flow's value before
 abbrev pub registerAfter : Effect → ℕ → (ℕ → ℕ) → ℕ → ℕ
 registerAfter nothing rd before r = before r
 registerAfter (setsRd v) rd before r = cond (eqb r rd) v (before r)
@@ -130,7 +130,7 @@ module _ (env : Env) (start : Held) (calls : List Call) where
 
   -- every register flow, and the memory flow at every address
   pub record Flows : Type 0 where
-    pub registers : (r : ℕ) → 1 ≤ r → r ≤ 31 → registerFlowValue env (run start calls) r ≡ registersBy env start trueOnes r
+    pub registers : (r : ℕ) → 1 ≤ r → r ≤ lastRegister → registerFlowValue env (run start calls) r ≡ registersBy env start trueOnes r
     pub memory : (a : ℕ) → a < 2 ^ 64 → memoryFlowValue env (run start calls) a ≡ memoryBy env start trueOnes a
 
 pub record Means (start : Held) (calls : List Call) : Type 0 where

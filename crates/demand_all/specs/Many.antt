@@ -6,8 +6,8 @@ use mathlib.Core.List.{List, [], _∷_}
 use lib.Dec.{eqb}
 use Rattle.lowering_refusals.specs.declared.State.{State}
 use Rattle.lowering.specs.Lowering.{Lent, lowering}
-use Rattle.lowering_all.specs.All as Many
-use Rattle.lowering_all.specs.All.{loweringOn}
+use Rattle.lowering.specs.All as Many
+use Rattle.lowering.specs.All.{loweringOn}
 use Rattle.demand.specs.Calls.{Held, Request, Call, lower, run}
 
 abbrev pub held : Lent → State → Held

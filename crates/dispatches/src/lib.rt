@@ -8,7 +8,7 @@ ghost use Rattle.edges.specs.Records.{putRecord};
 // The words of a dispatch: register, from.
 pub const DISPATCH: usize = 2;
 
-// Jalr under a register: a dispatch, behind `count` others.
+// Jalr under a register: a dispatch, after `count` others.
 pub fn go_to_anywhere(dispatches: &mut [u64], count: usize, register: u64, from: u64)
     ensures { λ _. ⌜ now (dispatches .exit) ≡ putRecord 2 (now (dispatches .entry)) count (register ∷ from ∷ []) ⌝ }
 {
@@ -20,7 +20,7 @@ pub fn go_to_anywhere(dispatches: &mut [u64], count: usize, register: u64, from:
     dispatches[b + 1] = from;
 }
 
-// The place of a bad line, behind `count` others.
+// The place of a bad line, after `count` others.
 pub fn put_bad(bads: &mut [u64], count: usize, place: NodeRef)
     ensures { λ _. ⌜ now (bads .exit) ≡ putRecord 1 (now (bads .entry)) count (place .0 ∷ []) ⌝ }
 {

@@ -6,26 +6,39 @@ use Rattle.instruction_class.specs.declared.Class.the-variants.{Plain, Access, 
 use Rattle.models.specs.Places.{Outcome, nothing, register, memory, branch}
 use Rattle.edges.specs.Records.{putRecord}
 
--- to, from, origin (0 regular, 1 branch, 2 syscall) and condition, a place
+-- the words of an in-edge: to, from, origin and condition, a place
+abbrev pub edgeStride : ℕ
+edgeStride = 4
+
 abbrev pub edge : ℕ → ℕ → ℕ → ℕ → List ℕ
 edge to from origin condition = to ∷ from ∷ origin ∷ condition ∷ []
+
+-- the origins: "kind regular, branch or syscall"
+abbrev pub regularOrigin : ℕ
+regularOrigin = 0
+
+abbrev pub branchOrigin : ℕ
+branchOrigin = 1
+
+abbrev pub syscallOrigin : ℕ
+syscallOrigin = 2
 
 -- no condition: a place that no list reaches
 abbrev pub noCondition : ℕ
 noCondition = 2 ^ 64 - 1
 
 -- the conditions of a branch
-abbrev pub taken : Outcome ℕ → ℕ
-taken nothing = noCondition
-taken (register x) = noCondition
-taken (memory x) = noCondition
-taken (branch x y) = x
+abbrev pub takenCondition : Outcome ℕ → ℕ
+takenCondition nothing = noCondition
+takenCondition (register x) = noCondition
+takenCondition (memory x) = noCondition
+takenCondition (branch x y) = x
 
-abbrev pub other : Outcome ℕ → ℕ
-other nothing = noCondition
-other (register x) = noCondition
-other (memory x) = noCondition
-other (branch x y) = y
+abbrev pub otherCondition : Outcome ℕ → ℕ
+otherCondition nothing = noCondition
+otherCondition (register x) = noCondition
+otherCondition (memory x) = noCondition
+otherCondition (branch x y) = y
 
 abbrev pub edgeCount : Class → ℕ
 edgeCount Plain = 1
@@ -36,14 +49,26 @@ edgeCount Jump = 1
 edgeCount Indirect = 0
 edgeCount Call = 1
 
+-- "An address sum wraps at 2^64"; an instruction has 4 bytes
+abbrev pub target : ℕ → ℕ → ℕ
+target pc offset = (pc + offset) % 2 ^ 64
+
+abbrev pub instructionSize : ℕ
+instructionSize = 4
+
+-- the edge of an instruction that has no condition
+abbrev pub oneEdge : List ℕ → ℕ → ℕ → ℕ → ℕ → List ℕ
+oneEdge es n to pc origin = putRecord edgeStride es n (edge to pc origin noCondition)
+
 -- "Regular kinds: one edge to the next address; Jal: one regular edge to its target; Ecall: one syscall edge to the next. Branch: the taken
--- edge first, then the other, each with its condition. Jalr: [..] no edge. An address sum wraps at 2^64."
+-- edge first, then the other, each with its condition. Jalr: [..] no edge."
 abbrev pub edgesAfter : List ℕ → ℕ → Class → ℕ → ℕ → Outcome ℕ → List ℕ
-edgesAfter es n Plain pc imm o = putRecord 4 es n (edge ((pc + 4) % 2 ^ 64) pc 0 noCondition)
-edgesAfter es n Access pc imm o = putRecord 4 es n (edge ((pc + 4) % 2 ^ 64) pc 0 noCondition)
-edgesAfter es n Addition pc imm o = putRecord 4 es n (edge ((pc + 4) % 2 ^ 64) pc 0 noCondition)
+edgesAfter es n Plain pc imm o = oneEdge es n (target pc instructionSize) pc regularOrigin
+edgesAfter es n Access pc imm o = oneEdge es n (target pc instructionSize) pc regularOrigin
+edgesAfter es n Addition pc imm o = oneEdge es n (target pc instructionSize) pc regularOrigin
 edgesAfter es n Branch pc imm o =
-    putRecord 4 (putRecord 4 es n (edge ((pc + imm) % 2 ^ 64) pc 1 (taken o))) (n + 1) (edge ((pc + 4) % 2 ^ 64) pc 1 (other o))
-edgesAfter es n Jump pc imm o = putRecord 4 es n (edge ((pc + imm) % 2 ^ 64) pc 0 noCondition)
+    putRecord edgeStride (putRecord edgeStride es n (edge (target pc imm) pc branchOrigin (takenCondition o))) (n + 1)
+    (edge (target pc instructionSize) pc branchOrigin (otherCondition o))
+edgesAfter es n Jump pc imm o = oneEdge es n (target pc imm) pc regularOrigin
 edgesAfter es n Indirect pc imm o = es
-edgesAfter es n Call pc imm o = putRecord 4 es n (edge ((pc + 4) % 2 ^ 64) pc 2 noCondition)
+edgesAfter es n Call pc imm o = oneEdge es n (target pc instructionSize) pc syscallOrigin

@@ -9,3 +9,7 @@ use lib.Seq.{sets}
 -- the words once a record is put at place p, where they reach over it
 abbrev pub putRecord : ℕ → List ℕ → ℕ → List ℕ → List ℕ
 putRecord stride ws p record-words = cond (ltb p (length ws / stride)) (sets ws (p * stride) record-words) ws
+
+-- the words of a dispatch: register and address
+abbrev pub dispatchStride : ℕ
+dispatchStride = 2

@@ -5,7 +5,7 @@ ghost use mathlib.Core.Path.{_≡_};
 ghost use Prim.Native.Nat.{_+_, _≤_};
 ghost use Rattle.models.specs.Code.{outcomeOf};
 ghost use Rattle.edges.specs.Records.{putRecord};
-ghost use Rattle.edges.specs.Edges.{edge, edgesAfter, edgeCount, taken, other};
+ghost use Rattle.edges.specs.Edges.{edge, edgesAfter, edgeCount, takenCondition, otherCondition};
 
 // The words of an in-edge: to, from, origin, condition.
 pub const EDGE: usize = 4;
@@ -36,7 +36,7 @@ pub fn edge_count(class: Class) -> usize
     }
 }
 
-// The edges of an instruction, behind `count` others: the second `match` of unicorn's `translate_to_model`.
+// The edges of an instruction, after `count` others: the second `match` of unicorn's `translate_to_model`.
 pub fn go_to_instructions(
     edges: &mut [u64],
     count: usize,
@@ -62,7 +62,7 @@ pub fn go_to_instructions(
 
 // The taken edge first, then the other.
 fn put_branch(edges: &mut [u64], count: usize, target: u64, next: u64, pc: u64, outcome: Outcome)
-    ensures { λ _. ⌜ now (edges .exit) ≡ putRecord 4 (putRecord 4 (now (edges .entry)) count (edge target pc 1 (taken (outcomeOf outcome)))) (count + 1) (edge next pc 1 (other (outcomeOf outcome))) ⌝ }
+    ensures { λ _. ⌜ now (edges .exit) ≡ putRecord 4 (putRecord 4 (now (edges .entry)) count (edge target pc 1 (takenCondition (outcomeOf outcome)))) (count + 1) (edge next pc 1 (otherCondition (outcomeOf outcome))) ⌝ }
 {
     let condition = taken_condition(outcome);
     let otherwise = other_condition(outcome);
@@ -80,7 +80,7 @@ fn put_second(edges: &mut [u64], count: usize, to: u64, pc: u64, condition: u64)
 }
 
 fn taken_condition(outcome: Outcome) -> u64
-    ensures { λ r. ⌜ r ≡ taken (outcomeOf outcome) ⌝ }
+    ensures { λ r. ⌜ r ≡ takenCondition (outcomeOf outcome) ⌝ }
 {
     match outcome {
         Outcome::Nothing => NO_CONDITION,
@@ -91,7 +91,7 @@ fn taken_condition(outcome: Outcome) -> u64
 }
 
 fn other_condition(outcome: Outcome) -> u64
-    ensures { λ r. ⌜ r ≡ other (outcomeOf outcome) ⌝ }
+    ensures { λ r. ⌜ r ≡ otherCondition (outcomeOf outcome) ⌝ }
 {
     match outcome {
         Outcome::Nothing => NO_CONDITION,

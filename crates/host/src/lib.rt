@@ -1,20 +1,15 @@
 // The library for a host in C or Rust. A slice is a pointer and a length there; the state is 85 words that the host keeps.
 use btor2::NodeRef;
-use builder::Tally;
-use lowering_refusals::Counts;
-use lowering_refusals::State;
-use lowering_words::FIRST_ROLE;
-use lowering_words::STATE_WORDS;
+use lowering_calls::STATE_WORDS;
 use print::Printed;
 use riscv::Instruction;
 ghost use mathlib.Core.Path.{_≡_};
-ghost use Prim.Native.Nat.{_≤_};
 ghost use lib.ListN.{length};
 ghost use Rattle.lowering.specs.Lowering.{lent};
 ghost use Rattle.lowering_refusals.specs.Refusal.{roomOf};
-ghost use Rattle.lowering_words.specs.Words.{rolesIn, stateIn, given};
-ghost use Rattle.lowering_all.specs.All.{givenAll};
-ghost use Rattle.host.specs.Host.{hostLowering, hostLoweringAll, givenText, hostPrinting, hostCheck};
+ghost use Rattle.lowering.specs.Words.{given, loweringWords};
+ghost use Rattle.lowering.specs.All.{givenAll, loweringAllWords};
+ghost use Rattle.host.specs.Host.{givenText, hostPrinting, hostCheck};
 
 // A count above its storage.
 const BAD_COUNT: u64 = 9;
@@ -37,15 +32,8 @@ pub extern "C" fn lanthanumbat_lower(
     imm: u64,
     flag: usize,
 ) -> u64
-    ensures { λ r. ⌜ given r (lent (now (list .exit)) (now (names .exit)) (now (edges .exit)) (now (dispatches .exit)) (now (bads .exit))) (now (state .exit)) ≡ hostLowering (lent (now (list .entry)) (now (names .entry)) (now (edges .entry)) (now (dispatches .entry)) (now (bads .entry))) (now (state .entry)) (record { kind = kind; rd = rd; rs1 = rs1; rs2 = rs2; imm = imm }) address (record { 0 = flag }) ⌝ }
+    ensures { λ r. ⌜ given r (lent (now (list .exit)) (now (names .exit)) (now (edges .exit)) (now (dispatches .exit)) (now (bads .exit))) (now (state .exit)) ≡ loweringWords (lent (now (list .entry)) (now (names .entry)) (now (edges .entry)) (now (dispatches .entry)) (now (bads .entry))) (now (state .entry)) (record { kind = kind; rd = rd; rs1 = rs1; rs2 = rs2; imm = imm }) address (record { 0 = flag }) ⌝ }
 {
-    if state.len() < STATE_WORDS {
-        return BAD_COUNT;
-    }
-    let before = state_in(state);
-    let t = before.tally;
-    let places = before.roles;
-    let out = roles_check::roles_out(list, t.lines, places);
     let i = Instruction {
         kind,
         rd,
@@ -53,7 +41,7 @@ pub extern "C" fn lanthanumbat_lower(
         rs2,
         imm,
     };
-    lowering_words::lower_words(
+    lowering_calls::lower_words(
         list,
         names,
         edges,
@@ -63,7 +51,6 @@ pub extern "C" fn lanthanumbat_lower(
         i,
         address,
         NodeRef(flag),
-        !out,
     )
 }
 
@@ -80,17 +67,9 @@ pub extern "C" fn lanthanumbat_lower_all(
     calls: &[u64],
     refusal: &mut u64,
 ) -> usize
-    ensures { λ r. ⌜ givenAll r (now (refusal .exit)) (lent (now (list .exit)) (now (names .exit)) (now (edges .exit)) (now (dispatches .exit)) (now (bads .exit))) (now (state .exit)) ≡ hostLoweringAll (lent (now (list .entry)) (now (names .entry)) (now (edges .entry)) (now (dispatches .entry)) (now (bads .entry))) (now (state .entry)) (now (calls .entry)) ⌝ }
+    ensures { λ r. ⌜ givenAll r (now (refusal .exit)) (lent (now (list .exit)) (now (names .exit)) (now (edges .exit)) (now (dispatches .exit)) (now (bads .exit))) (now (state .exit)) ≡ loweringAllWords (lent (now (list .entry)) (now (names .entry)) (now (edges .entry)) (now (dispatches .entry)) (now (bads .entry))) (now (state .entry)) (now (calls .entry)) ⌝ }
 {
-    if state.len() < STATE_WORDS {
-        *refusal = BAD_COUNT;
-        return 0;
-    }
-    let before = state_in(state);
-    let t = before.tally;
-    let places = before.roles;
-    let fits = !roles_check::roles_out(list, t.lines, places);
-    let stopped = lowering_all::lower_all(list, names, edges, dispatches, bads, state, calls, fits);
+    let stopped = lowering_calls::lower_all(list, names, edges, dispatches, bads, state, calls);
     *refusal = stopped.refusal;
     stopped.done
 }
@@ -138,40 +117,6 @@ pub extern "C" fn lanthanumbat_check_start(
     if state.len() < STATE_WORDS {
         return BAD_COUNT;
     }
-    let given = state_in(state);
+    let given = lowering_calls::state_in(state);
     start::check_start(list, host, names, edges, dispatches, bads, given)
-}
-
-fn state_in(words: &[u64]) -> State
-    requires { ⌜ 85 ≤ length (now words) ⌝ }
-    ensures { λ r. ⌜ r ≡ stateIn (now (words .entry)) ⌝ }
-{
-    let roles = roles_in(words);
-    State {
-        tally: Tally {
-            lines: words[0] as usize,
-            nid: words[1],
-        },
-        counts: Counts {
-            names: words[2] as usize,
-            edges: words[3] as usize,
-            dispatches: words[4] as usize,
-            bads: words[5] as usize,
-        },
-        roles,
-    }
-}
-
-fn roles_in(words: &[u64]) -> [NodeRef; 79]
-    requires { ⌜ 85 ≤ length (now words) ⌝ }
-    ensures { λ r. ⌜ r ≡ rolesIn (now (words .entry)) ⌝ }
-{
-    let mut roles = [NodeRef(0); 79];
-    let mut k = 0;
-    while k < roles::ROLES {
-        let place = NodeRef(words[FIRST_ROLE + k] as usize);
-        roles[k] = place;
-        k += 1;
-    }
-    roles
 }

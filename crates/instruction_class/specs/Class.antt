@@ -1,7 +1,7 @@
 -- What a kind asks of a call besides its lines' text: which class it is of, how many lines it appends, whether it needs a flag.
 -- Document 01, "Lines appended" and refusal 7.
 use Prim.Native.Nat.{ℕ, _+_}
-use mathlib.Core.Bool.{Bool, true, false, cond, not, _||_}
+use mathlib.Core.Bool.{Bool, true, false, cond, not, _||_, _&&_}
 use Rattle.riscv.specs.Kind.{Kind, Lui, Auipc, Lb, Lh, Lw, Ld, Lbu, Lhu, Sb, Sh, Sw, Sd, Addi, Sltiu, Xori, Ori, Andi, Slli, Srli, Srai, Addiw, Slliw, Srliw, Sraiw, Add, Sub, Sll, Sltu, Srl, Sra, Or, And, Mul, Div, Divu, Remu, Addw, Divw, Subw, Sllw, Mulw, Beq, Bne, Blt, Bge, Bltu, Bgeu, Jal, Jalr, Ecall}
 use Rattle.instruction_class.specs.declared.Class.{Class}
 use Rattle.instruction_class.specs.declared.Class.the-variants.{Plain, Access, Addition, Branch, Jump, Indirect, Call}
@@ -129,11 +129,30 @@ abbrev pub lineCount : Kind → Bool → Bool → Bool → ℕ
 lineCount k z d s = countOf (class k) (plainCount k) z d s
 
 -- "Branches, Addi and Jal with rd x0, and Jalr with rd x0 and rs1 not x0 need none"
-abbrev pub needsFlag : Class → Bool → Bool → Bool
-needsFlag Plain d s = true
-needsFlag Access d s = true
-needsFlag Addition d s = not d
-needsFlag Branch d s = false
-needsFlag Jump d s = not d
-needsFlag Indirect d s = not d || s
-needsFlag Call d s = true
+abbrev pub classNeedsFlag : Class → Bool → Bool → Bool
+classNeedsFlag Plain d s = true
+classNeedsFlag Access d s = true
+classNeedsFlag Addition d s = not d
+classNeedsFlag Branch d s = false
+classNeedsFlag Jump d s = not d
+classNeedsFlag Indirect d s = not d || s
+classNeedsFlag Call d s = true
+
+abbrev pub needsFlag : Kind → Bool → Bool → Bool
+needsFlag k d s = classNeedsFlag (class k) d s
+
+abbrev pub isIndirect : Class → Bool
+isIndirect Plain = false
+isIndirect Access = false
+isIndirect Addition = false
+isIndirect Branch = false
+isIndirect Jump = false
+isIndirect Indirect = true
+isIndirect Call = false
+
+-- "Jalr: a dispatch under rs1 (with x0 a `bad` line instead)"
+abbrev pub hasBad : Class → Bool → Bool
+hasBad c s = isIndirect c && s
+
+abbrev pub hasDispatch : Class → Bool → Bool
+hasDispatch c s = isIndirect c && not s

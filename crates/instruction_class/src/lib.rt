@@ -3,7 +3,7 @@ ghost use mathlib.Core.Path.{_≡_};
 ghost use Prim.Native.Nat.{_+_, _<_, _≤_};
 ghost use mathlib.Core.Bool.{cond};
 ghost use Rattle.riscv.specs.Kind.{kindAt};
-ghost use Rattle.instruction_class.specs.Class.{class, plainCount, countOf, needsFlag};
+ghost use Rattle.instruction_class.specs.Class.{class, plainCount, countOf, lineCount, needsFlag, isIndirect};
 
 // Kinds by what they do besides their lines. Access: loads and stores. Addition: Addi. Jump: Jal. Indirect: Jalr. Call: Ecall.
 pub enum Class {
@@ -43,12 +43,21 @@ fn class_at(kind: usize) -> Class
     }
 }
 
-// How many lines a kind of a class appends. The tests are: imm is 0, rd is x0, rs1 is x0.
-pub fn line_count(kind: u64, class: Class, z: bool, d: bool, s: bool) -> usize
-    ensures counted { λ r. ⌜ r ≡ countOf class (plainCount (kindAt kind)) z d s ⌝ }
-    ensures most { λ r. ⌜ r ≤ 37 ⌝ }
+// How many lines a kind appends. The tests are: imm is 0, rd is x0, rs1 is x0.
+pub fn line_count(kind: u64, z: bool, d: bool, s: bool) -> usize
+    ensures counted { λ r. ⌜ r ≡ lineCount (kindAt kind) z d s ⌝ }
+    ensures most { λ r. ⌜ r ≤ 35 ⌝ }
 {
+    let class = class_of(kind);
     let n = plain_count(kind);
+    count_of(class, n, z, d, s)
+}
+
+// Each class counts in its own way.
+fn count_of(class: Class, n: usize, z: bool, d: bool, s: bool) -> usize
+    requires { ⌜ n ≤ 35 ⌝ }
+    ensures { λ r. ⌜ r ≡ countOf class n z d s ⌝ }
+{
     match class {
         Class::Plain => n,
         Class::Access => { if z { n } else { n + 2 } }
@@ -70,8 +79,7 @@ pub fn line_count(kind: u64, class: Class, z: bool, d: bool, s: bool) -> usize
 
 fn indirect_count(n: usize, d: bool, s: bool) -> usize
     requires { ⌜ n ≤ 35 ⌝ }
-    ensures counted { λ r. ⌜ r ≡ cond d 0 n + cond s 1 0 ⌝ }
-    ensures most { λ r. ⌜ r ≤ 36 ⌝ }
+    ensures { λ r. ⌜ r ≡ cond d 0 n + cond s 1 0 ⌝ }
 {
     if d {
         if s {
@@ -106,10 +114,11 @@ fn count_at(kind: usize) -> usize
     count as usize
 }
 
-// Whether a kind of a class needs a flag.
-pub fn needs_flag(class: Class, d: bool, s: bool) -> bool
-    ensures { λ r. ⌜ r ≡ needsFlag class d s ⌝ }
+// Whether a kind needs a flag.
+pub fn needs_flag(kind: u64, d: bool, s: bool) -> bool
+    ensures { λ r. ⌜ r ≡ needsFlag (kindAt kind) d s ⌝ }
 {
+    let class = class_of(kind);
     match class {
         Class::Plain => true,
         Class::Access => true,
@@ -118,5 +127,20 @@ pub fn needs_flag(class: Class, d: bool, s: bool) -> bool
         Class::Jump => !d,
         Class::Indirect => { if d { s } else { true } }
         Class::Call => true,
+    }
+}
+
+// Whether the class is Jalr's.
+pub fn is_indirect(class: Class) -> bool
+    ensures { λ r. ⌜ r ≡ isIndirect class ⌝ }
+{
+    match class {
+        Class::Plain => false,
+        Class::Access => false,
+        Class::Addition => false,
+        Class::Branch => false,
+        Class::Jump => false,
+        Class::Indirect => true,
+        Class::Call => false,
     }
 }

@@ -16,7 +16,7 @@ use Rattle.btor2_list.specs.Node.{Node, node}
 use Rattle.btor2_list.specs.View.{view}
 use Rattle.btor2_list.specs.Look.{seen, lookAt}
 use Rattle.btor2_list.proofs.Seen.{look-line, look-past}
-use Rattle.roles_check.specs.RolesFit.{valueNumber, roleSort, rolesFit}
+use Rattle.roles_check.specs.RolesFit.{valueSort, roleSort, rolesFit}
 use Rattle.demand.proofs.Views.{view-agree}
 
 module _ (front rest : List ℕ) where
@@ -38,4 +38,4 @@ module _ (front rest : List ℕ) where
     unfolding rolesFit
     roles-front i [] = refl
     roles-front i (r ∷ rs) =
-        ap₂ (λ (x : Looked) (b : Bool). eqb (valueNumber x) (sortNumber (roleSort i)) && b) (look-front (r .0)) (roles-front (i + 1) rs)
+        ap₂ (λ (x : Looked) (b : Bool). eqb (valueSort x) (sortNumber (roleSort i)) && b) (look-front (r .0)) (roles-front (i + 1) rs)

@@ -1,2 +1,2 @@
-pub mod Accepted
-pub mod Whole
+pub mod Refused
+pub mod Words

@@ -1,3 +1,3 @@
 pub mod Lowering
-pub mod Sums
-pub mod Parts
+pub mod Words
+pub mod All

@@ -22,11 +22,9 @@ use Rattle.riscv.specs.declared.Instruction.{Instruction}
 use Rattle.riscv.specs.Kind.{kindAt}
 use Rattle.lowering_refusals.specs.declared.Room.{Room}
 use Rattle.lowering_refusals.specs.declared.State.{State}
-use Rattle.lowering_refusals.specs.Refusal.{roomOf, countsOut, needsOf, roomOut, refusalGiven, refusalOf}
-use Rattle.lowering.specs.Lowering as L
+use Rattle.lowering_refusals.specs.Refusal.{roomOf, needsOf, needs, roomOut, refusalGiven, refusalOf}
 use Rattle.lowering.specs.Lowering.{Lent, lent, Answer, answer, programOf, settled, countsAfter, roomIn, refused, loweringGiven, lowering}
-use Rattle.lowering.proofs.Accepted as A
-use Rattle.lowering_laws.proofs.Elsewhere.{needs-edges}
+use Rattle.lowering_refusals.proofs.Accepted as A
 use Rattle.lowering_entry.specs.declared.InEdge.{InEdge}
 use Rattle.lowering_entry.specs.InEdges.{edgeWords}
 use Rattle.lowering_entry.specs.Parts.{edgeAt, appended, usedOf, withEdges, takenApart, Counted, Rejoined}
@@ -102,17 +100,6 @@ at-most Jump = omega arith
 at-most Indirect = omega arith
 at-most Call = omega arith
 
--- what Jalr adds besides lines does not look at the count of edges
-same-aside : (c : Class) (s : Bool) (a : L.Aside) (st : State) (u : ℕ) (d : Bool) (lines rs1 pc : ℕ) → L.asideAfter c a (withEdges st u .counts) s d lines rs1 pc ≡ L.asideAfter c a (st .counts) s d lines rs1 pc
-same-aside Plain s a st u d lines rs1 pc = refl
-same-aside Access s a st u d lines rs1 pc = refl
-same-aside Addition s a st u d lines rs1 pc = refl
-same-aside Branch s a st u d lines rs1 pc = refl
-same-aside Jump s a st u d lines rs1 pc = refl
-same-aside Indirect true a st u d lines rs1 pc = refl
-same-aside Indirect false a st u d lines rs1 pc = refl
-same-aside Call s a st u d lines rs1 pc = refl
-
 -- ---- the same answer
 
 module _ (l n d b : List ℕ) (es : List InEdge) (st : State) (i : Instruction) (pc : ℕ) (flag : NodeRef) (u : ℕ) (test : (m : ℕ) → m ≤ 2 → ltb 2 (u + m) ≡ ltb (length es) (st .counts .edges + m)) where
@@ -125,20 +112,21 @@ module _ (l n d b : List ℕ) (es : List InEdge) (st : State) (i : Instruction) 
   abbrev c : Class
   c = class (kindAt (i .kind))
 
-  abbrev needs : Room
-  needs = needsOf (kindAt (i .kind)) c (eqb (i .imm) 0) (eqb (i .rd) 0) (eqb (i .rs1) 0) pc
+  abbrev needed : Room
+  needed = needs i pc
 
-  edges-are : needs .edges ≡ edgeCount c
-  edges-are = needs-edges (kindAt (i .kind)) (eqb (i .imm) 0) (eqb (i .rd) 0) pc c (eqb (i .rs1) 0)
+  edges-are : needed .edges ≡ edgeCount c
+  unfolding needsOf
+  edges-are = refl
 
   number : ℕ
   number = refusalOf l (roomIn own) (withEdges st u) i pc (flag .0)
 
   same-refusal : refusalOf l (roomIn theirs) st i pc (flag .0) ≡ number
-  unfolding number refusalGiven countsOut roomOut roomOf
+  unfolding number refusalGiven roomOut roomOf
   same-refusal =
       let nine : ltb 2 u ≡ ltb (length es) (st .counts .edges) = rw (add-zero u, add-zero (st .counts .edges)) at (test 0 (omega arith)) in
-      let eight : ltb 2 (u + needs .edges) ≡ ltb (length es) (st .counts .edges + needs .edges) = test (needs .edges) (rw edges-are (at-most c)) in
+      let eight : ltb 2 (u + needed .edges) ≡ ltb (length es) (st .counts .edges + needed .edges) = test (needed .edges) (rw edges-are (at-most c)) in
       rw (records es, ← nine, ← eight)
 
   -- what the core gave as a counts no edge away, and taken apart it is the answer whole
@@ -156,14 +144,14 @@ module _ (l n d b : List ℕ) (es : List InEdge) (st : State) (i : Instruction) 
     settled-whole : number ≡ 0 → Whole (settled own (withEdges st u) i pc run) (settled theirs st i pc run)
     unfolding settled countsAfter number roomOf
     settled-whole accepted =
-        let small : u + needs .edges ≤ 2 = A.roomy _ l (roomIn own) (withEdges st u .tally) (withEdges st u .counts) i pc (flag .0) accepted .edges in
+        let small : u + needed .edges ≤ 2 = A.roomy _ l (roomIn own) (withEdges st u .tally) (withEdges st u .counts) i pc (flag .0) accepted .edges in
         let small′ : u + edgeCount c ≤ 2 = rw edges-are at small in
         let fits : st .counts .edges + edgeCount c ≤ length es = ltb-false _ _ (sym (test (edgeCount c) (at-most c)) ∙ le-ltb 2 (u + edgeCount c) small′) in
-        let added : (u + needs .edges) - u ≡ edgeCount c = omega (arith, edges-are) in (
+        let added : (u + needed .edges) - u ≡ edgeCount c = omega (arith, edges-are) in (
           omega arith,
           record {
             fits = λ some. rw added fits;
-            right = rw (added, edges-are, same-aside c (eqb (i .rs1) 0) (L.aside n d b) st u (eqb (i .rd) 0) (st .tally .lines) (i .rs1) pc, same-edges es (st .counts .edges) u c pc (i .imm) (run .value .outcome) small′ fits);
+            right = rw (added, edges-are, same-edges es (st .counts .edges) u c pc (i .imm) (run .value .outcome) small′ fits);
           },
         )
 

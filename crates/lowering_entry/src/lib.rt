@@ -30,7 +30,7 @@ struct Apart {
     second: InEdge,
 }
 
-// Lowers an instruction at an address under a flag, as `lowering_state::lower` does, with in-edges appended to a slice of records.
+// Lowers an instruction at an address under a flag, as `lowering_calls::lower` does, with in-edges appended to a slice of records.
 pub fn lower(
     list: &mut [u64],
     names: &mut [u8],
@@ -92,7 +92,7 @@ fn lower_apart(
     let used = used_of(c.edges, room);
     let mut words = [0u64; 8];
     let inner = with_edges(state, used);
-    let r = lowering_state::lower(
+    let r = lowering_calls::lower(
         list,
         names,
         &mut words,

@@ -4,27 +4,28 @@ use mathlib.Core.Path.{_≡_, refl, sym, ap, subst, _∙_}
 use mathlib.Core.Bool.{true}
 use native.Mathlib.Omega.{arith}
 use native.Mathlib.Nat.{add-zero}
-use borrow.Author.Tests.{ltb-false, ne-eqb}
+use borrow.Author.Tests.{ne-eqb}
 use lib.Dec.{eqb, ltb}
 use lib.ListN.{length}
 use Rattle.btor2.specs.declared.NodeRef.{NodeRef}
 use Rattle.program.specs.Prog.{exec}
 use Rattle.builder.specs.Append.{at, append}
 use Rattle.instruction_class.specs.Class.{class}
+use Rattle.instruction_class.proofs.Most.{at-most}
 use Rattle.riscv.specs.declared.Instruction.{Instruction}
 use Rattle.riscv.specs.Kind.{kindAt}
 use Rattle.lowering_refusals.specs.declared.State.{State}
-use Rattle.lowering_refusals.specs.Refusal.{roomOf, countsOut, refusalOf}
-use Rattle.lowering_refusals.proofs.Within.{neither}
-use Rattle.lowering_lines.specs.Lines.{nameFor}
-use Rattle.lowering.specs.Lowering.{Lent, aside, programOf, settled, roomIn, refused, loweringGiven, lowering}
-use Rattle.lowering.proofs.Accepted as A
+use Rattle.lowering_refusals.specs.Refusal.{mostNid, roomOf, needsOf, refusalOf}
+use Rattle.lowering_refusals.proofs.Within.{within}
+use Rattle.lowering_refusals.proofs.Accepted as A
+use Rattle.lowering_lines.specs.Lines.{nameFor, programFrom}
+use Rattle.lowering.specs.Lowering.{Lent, programOf, settled, roomIn, refused, loweringGiven, lowering}
 use Rattle.lowering_laws.specs.Lines.{linesOf, behind}
 use Rattle.lowering_laws.specs.Accepted.{growth, Accepted}
 use Rattle.lowering_laws.proofs.EachKind.{reads}
-use Rattle.lowering_laws.proofs.Growth.{fitting, grows, fits, name-fits, at-most}
+use Rattle.lowering_laws.proofs.Growth.{fitting, grows, fits, name-fits}
 use Rattle.lowering_laws.proofs.Laid.{Room, Laid, laid}
-use Rattle.lowering_laws.proofs.Elsewhere.{edges-else, needs-lines, needs-edges, names-else, dispatches-else, bads-else}
+use Rattle.lowering_laws.proofs.Elsewhere.{edges-else, names-else, dispatches-else, bads-else}
 
 module _ (l : Lent) (st : State) (i : Instruction) (pc : ℕ) (flag : NodeRef) where
   abbrev number : ℕ
@@ -38,24 +39,22 @@ module _ (l : Lent) (st : State) (i : Instruction) (pc : ℕ) (flag : NodeRef) w
   small = name-fits (class (kindAt (i .kind))) (eqb (i .rs1) 0) (st .counts .names) pc
 
   grown : (at : ℕ → ℕ) → length (linesOf at 0 (programOf st i pc flag)) ≡ growth i
-  unfolding programOf
+  unfolding programOf programFrom
   grown at = sym (ap (λ r. length (r .lines)) (reads at _ _ _ _ _ _ (kindAt (i .kind)) _ _ _)) ∙ grows at _ _ _ _ _ _ small (kindAt (i .kind)) _ _ _
 
   fit : (at : ℕ → ℕ) → fitting (linesOf at 0 (programOf st i pc flag)) ≡ true
-  unfolding programOf
+  unfolding programOf programFrom
   fit at = sym (ap (λ r. fitting (r .lines)) (reads at _ _ _ _ _ _ (kindAt (i .kind)) _ _ _)) ∙ fits at _ _ _ _ _ _ small (kindAt (i .kind)) _ _ _
 
   module _ (e : number ≡ 0) where
-    nid-in : st .tally .nid ≤ 2 ^ 31 + 2097152
-    unfolding countsOut
+    nid-in : st .tally .nid ≤ mostNid
     nid-in =
-        let p = neither (ltb 1048576 (st .tally .lines)) _ (A.counts-in _ (l .list) (roomIn l) (st .tally) (st .counts) i pc (flag .0) e) in
-        ltb-false _ _ (neither (ltb (2 ^ 31 + 2097152) (st .tally .nid)) _ (p .1) .0)
+        within mostNid (roomIn l) (st .tally) (st .counts) (A.counts-in _ (l .list) (roomIn l) (st .tally) (st .counts) i pc (flag .0) e) .nids
 
     pub room : Room (l .list) (st .tally) (growth i)
-    unfolding roomOf
+    unfolding roomOf needsOf
     room = record {
-      lines = rw (needs-lines (kindAt (i .kind)) (eqb (i .imm) 0) (eqb (i .rd) 0) pc (class (kindAt (i .kind))) (eqb (i .rs1) 0)) at (A.roomy _ (l .list) (roomIn l) (st .tally) (st .counts) i pc (flag .0) e .lines);
+      lines = (A.roomy _ (l .list) (roomIn l) (st .tally) (st .counts) i pc (flag .0) e .lines);
       nids = omega (arith, nid-in, at-most (kindAt (i .kind)) (eqb (i .imm) 0) (eqb (i .rd) 0) (eqb (i .rs1) 0));
     }
 
@@ -68,7 +67,7 @@ module _ (l : Lent) (st : State) (i : Instruction) (pc : ℕ) (flag : NodeRef) w
         (laid (programOf st i pc flag) (st .tally .lines) 0 (l .list) (st .tally) (sym (add-zero _)) (rw (grown behind-them) room) (fit behind-them))
 
     pub when-accepted : Accepted l st i pc flag (lowering l st i pc flag)
-    unfolding loweringGiven settled
+    unfolding loweringGiven settled needsOf
     when-accepted = rw e (record {
       refusal = refl;
       nodes = run .nodes;
@@ -76,8 +75,8 @@ module _ (l : Lent) (st : State) (i : Instruction) (pc : ℕ) (flag : NodeRef) w
       nids = run .nids;
       most = at-most (kindAt (i .kind)) (eqb (i .imm) 0) (eqb (i .rd) 0) (eqb (i .rs1) 0);
       list = record { size = run .size; below = run .below; above = run .above };
-      names = names-else _ _ (eqb (i .rd) 0) pc (aside (l .names) (l .dispatches) (l .bads)) (st .counts) _ (i .rs1) (class (kindAt (i .kind))) (eqb (i .rs1) 0);
-      edges = rw (needs-edges (kindAt (i .kind)) (eqb (i .imm) 0) (eqb (i .rd) 0) pc (class (kindAt (i .kind))) (eqb (i .rs1) 0)) (edges-else (class (kindAt (i .kind))) (l .edges) (st .counts .edges) pc (i .imm) _);
-      dispatches = dispatches-else _ _ (eqb (i .rd) 0) pc (aside (l .names) (l .dispatches) (l .bads)) (st .counts) _ (i .rs1) (class (kindAt (i .kind))) (eqb (i .rs1) 0);
-      bads = bads-else _ _ (eqb (i .rd) 0) pc (aside (l .names) (l .dispatches) (l .bads)) (st .counts) _ (i .rs1) (class (kindAt (i .kind))) (eqb (i .rs1) 0);
+      names = names-else (st .counts .names) pc (class (kindAt (i .kind))) (eqb (i .rs1) 0) (l .names);
+      edges = edges-else (class (kindAt (i .kind))) (l .edges) (st .counts .edges) pc (i .imm) _;
+      dispatches = dispatches-else (st .counts .dispatches) pc (class (kindAt (i .kind))) (eqb (i .rs1) 0) (l .dispatches) (i .rs1);
+      bads = bads-else (st .counts .bads) pc (class (kindAt (i .kind))) (eqb (i .rs1) 0) (l .bads) (eqb (i .rd) 0) (st .tally .lines);
     })

@@ -7,8 +7,7 @@ use Rattle.btor2.specs.declared.Name.{Name}
 use Rattle.btor2_list.specs.Node.{noName}
 use Rattle.program.specs.Prog.{Prog}
 use Rattle.instruction_class.specs.declared.Class.{Class}
-use Rattle.instruction_class.specs.declared.Class.the-variants.{Plain, Access, Addition, Branch, Jump, Indirect, Call}
-use Rattle.instruction_class.specs.Class.{class}
+use Rattle.instruction_class.specs.Class.{class, hasBad}
 use Rattle.models.specs.Places as P
 use Rattle.models.specs.Model.{translate, constantOf}
 use Rattle.models.specs.Code.{operandsOf, flowsOf}
@@ -17,15 +16,13 @@ use Rattle.riscv.specs.Kind.{kindAt}
 use Rattle.text.specs.BadName.{badName}
 use Rattle.lowering_lines.specs.declared.Reads.{Reads}
 
--- Jalr's bad line has a name in our area, behind what is in use there; no other line has one
+-- the mark of our area in a name (btor2_name/specs/NameBytes)
+abbrev pub ourArea : ℕ
+ourArea = 2
+
+-- Jalr's bad line has a name in our area, after what is in use there; no other line has one
 abbrev pub nameFor : Class → Bool → ℕ → ℕ → Name
-nameFor Plain s at pc = noName
-nameFor Access s at pc = noName
-nameFor Addition s at pc = noName
-nameFor Branch s at pc = noName
-nameFor Jump s at pc = noName
-nameFor Indirect s at pc = cond s (record { area = 2; at = at; len = length (badName pc) }) noName
-nameFor Call s at pc = noName
+nameFor c s at pc = cond (hasBad c s) (record { area = ourArea; at = at; len = length (badName pc) }) noName
 
 unfoldable pub programFrom : Reads → ℕ → Instruction → ℕ → Prog ℕ (P.Modeled ℕ)
 programFrom e names i pc =

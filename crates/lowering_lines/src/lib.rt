@@ -4,6 +4,7 @@ use btor2::NodeRef;
 use builder::Tally;
 use instruction_class::Class;
 use instruction_class::class_of;
+use instruction_class::is_indirect;
 use models::Flows;
 use models::Modeled;
 use models::Operands;
@@ -11,7 +12,6 @@ use riscv::Instruction;
 ghost use mathlib.Core.Path.{_≡_};
 ghost use Rattle.btor2_list.specs.Node.{noName};
 ghost use Rattle.builder.specs.Gives.{Gives};
-ghost use Rattle.instruction_class.specs.declared.Class.the-variants.{Indirect};
 ghost use Rattle.models.specs.Code.{modeledOf};
 ghost use Rattle.lowering_lines.specs.Lines.{nameFor, programFrom};
 
@@ -60,31 +60,20 @@ pub fn lower_lines(
     )
 }
 
-// The name of Jalr's bad line, which is put behind `at` bytes of our area.
+// The name of Jalr's bad line, which is put after `at` bytes of our area.
 fn name_for(class: Class, s: bool, at: usize, address: u64) -> Name
     ensures { λ r. ⌜ r ≡ nameFor class s at address ⌝ }
 {
-    match class {
-        Class::Plain => no_name(),
-        Class::Access => no_name(),
-        Class::Addition => no_name(),
-        Class::Branch => no_name(),
-        Class::Jump => no_name(),
-        Class::Indirect => indirect_name(s, at, address),
-        Class::Call => no_name(),
-    }
-}
-
-fn indirect_name(s: bool, at: usize, address: u64) -> Name
-    ensures { λ r. ⌜ r ≡ nameFor Indirect s at address ⌝ }
-{
-    if s {
-        let len = text::bad_name_len(address);
-        return Name {
-            area: btor2_name::OURS,
-            at: at as u64,
-            len: len as u64,
-        };
+    if is_indirect(class) {
+        if s {
+            let len = text::bad_name_len(address);
+            return Name {
+                area: btor2_name::OURS,
+                at: at as u64,
+                len: len as u64,
+            };
+        }
+        return no_name();
     }
     no_name()
 }

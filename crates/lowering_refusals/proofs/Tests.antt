@@ -4,25 +4,19 @@ use mathlib.Core.Bool.{Bool, not}
 use mathlib.Core.List.{List, [], _∷_}
 use lib.Dec.{eqb}
 use Rattle.builder.specs.declared.Tally.{Tally}
-use Rattle.instruction_class.specs.declared.Class.{Class}
-use Rattle.instruction_class.specs.Class.{class}
 use Rattle.riscv.specs.declared.Instruction.{Instruction}
-use Rattle.riscv.specs.Kind.{kindAt}
 use Rattle.riscv.specs.Refusal.{refusal}
 use Rattle.riscv.proofs.First.{Tests}
 use Rattle.lowering_refusals.specs.declared.Counts.{Counts}
 use Rattle.lowering_refusals.specs.declared.Room.{Room}
-use Rattle.lowering_refusals.specs.Refusal.{needsOf, roomOut, flagOut}
+use Rattle.lowering_refusals.specs.Refusal.{needs, roomOut, flagOut}
 
 module _ (ws : List ℕ) (room : Room) (t : Tally) (c : Counts) (i : Instruction) (pc flag : ℕ) where
-  abbrev pub kindClass : Class
-  kindClass = class (kindAt (i .kind))
-
   abbrev pub from8 : Tests
-  from8 = (roomOut room t c (needsOf (kindAt (i .kind)) kindClass (eqb (i .imm) 0) (eqb (i .rd) 0) (eqb (i .rs1) 0) pc), 8) ∷ []
+  from8 = (roomOut room t c (needs i pc), 8) ∷ []
 
   abbrev pub from7 : Tests
-  from7 = (flagOut ws (t .lines) kindClass (eqb (i .rd) 0) (eqb (i .rs1) 0) flag, 7) ∷ from8
+  from7 = (flagOut ws (t .lines) i flag, 7) ∷ from8
 
   abbrev pub fromRecord : Tests
   fromRecord = (not (eqb (refusal i) 0), refusal i) ∷ from7

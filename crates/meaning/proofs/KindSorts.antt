@@ -88,7 +88,7 @@ module _ (n : ℕ) (st rt : Role → Bool) (imm : ℕ) (h : imm < 2 ^ 64) (name 
 
 -- what every kind gives has its sort, whatever its constant
 module _ (n : ℕ) (st rt : Role → Bool) (imm : ℕ) (name : Name) where
-  pub kind-marks : (k : Kind) (z d s : Bool) → T (marked n st rt (needsFlag (class k) d s) (template imm name k z d s))
+  pub kind-marks : (k : Kind) (z d s : Bool) → T (marked n st rt (needsFlag k d s) (template imm name k z d s))
   unfolding template marked
   kind-marks Lui z d s = tt
   kind-marks Auipc z d s = tt
@@ -162,7 +162,7 @@ abbrev pub withFlag : {A : Type 0} → A → Operands A → Operands A
 withFlag x e = record { flag = x; rs1 = e .rs1; rs2 = e .rs2; zero = e .zero; one = e .one; trueBit = e .trueBit; memory = e .memory; counter = e .counter; maximum = e .maximum }
 
 module _ {A : Type 0} (at : ℕ → A) (e : Operands A) (x : A) (f : Flows A) (r m : A) (imm : ℕ) (name : Name) where
-  pub unflagged : (k : Kind) (z d s : Bool) → T (not (needsFlag (class k) d s)) → reading at e f r m imm name k z d s ≡ reading at (withFlag x e) f r m imm name k z d s
+  pub unflagged : (k : Kind) (z d s : Bool) → T (not (needsFlag k d s)) → reading at e f r m imm name k z d s ≡ reading at (withFlag x e) f r m imm name k z d s
   unfolding reading
   unflagged Lui z d s h = absurd h
   unflagged Auipc z d s h = absurd h

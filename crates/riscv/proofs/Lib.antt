@@ -2,3 +2,4 @@ pub mod First
 pub mod Numbered
 pub mod InOneCell
 mod Examples
+pub mod EachKind

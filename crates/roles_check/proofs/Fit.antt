@@ -11,18 +11,18 @@ use Rattle.btor2.specs.declared.NodeRef.{NodeRef}
 use Rattle.btor2.specs.Sort.{sortNumber}
 use Rattle.btor2_list.specs.Look.{lookAt}
 use Rattle.roles.specs.Roles.{role}
-use Rattle.roles_check.specs.RolesFit.{valueNumber, roleSort, rolesFit}
+use Rattle.roles_check.specs.RolesFit.{valueSort, roleSort, rolesFit}
 
 module _ (ws : List ℕ) (n : ℕ) (roles : List NodeRef) (i : ℕ) where
   rest : i < length roles → drop i roles ≡ role roles i ∷ drop (i + 1) roles
   rest h = rw (add-one, drop-cons roles i (record { 0 = 0 }))
 
-  pub fit-on : i < length roles → valueNumber (lookAt ws n (role roles i .0)) ≡ sortNumber (roleSort i)
+  pub fit-on : i < length roles → valueSort (lookAt ws n (role roles i .0)) ≡ sortNumber (roleSort i)
       → rolesFit ws n (i + 1) (drop (i + 1) roles) ≡ rolesFit ws n i (drop i roles)
   unfolding rolesFit
   fit-on h e = rw (rest h, eq-eqb _ _ e)
 
-  pub fit-not : i < length roles → (valueNumber (lookAt ws n (role roles i .0)) ≡ sortNumber (roleSort i) → ⊥) → rolesFit ws n i (drop i roles) ≡ false
+  pub fit-not : i < length roles → (valueSort (lookAt ws n (role roles i .0)) ≡ sortNumber (roleSort i) → ⊥) → rolesFit ws n i (drop i roles) ≡ false
   unfolding rolesFit
   fit-not h e = rw (rest h, ne-eqb _ _ e)
 

@@ -12,12 +12,12 @@ use Rattle.btor2.specs.Op.{state, stateInit, carried}
 use Rattle.btor2_list.specs.declared.Line.{Line}
 use Rattle.btor2_list.specs.Node.{opOf, nodeOf}
 use Rattle.btor2_list.specs.Look.{seen}
-use Rattle.roles_check.specs.RolesFit.{valueNumber}
+use Rattle.roles_check.specs.RolesFit.{valueSort}
 
 -- a constant, an ite or a state of a Bit, a Word or a Memory
 module _ (l : Line) where
   abbrev Says : ℕ → ℕ → Type 0
-  Says kind s = l .kind ≡ kind → l .sort ≡ s → s ≡ valueNumber (seen (nodeOf l))
+  Says kind s = l .kind ≡ kind → l .sort ≡ s → s ≡ valueSort (seen (nodeOf l))
 
   says : (kind : ℕ) → Says kind 1 → Says kind 2 → Says kind 3 → (s : ℕ) → (s ≡ 0 → ⊥) → s ≤ 3 → Says kind s
   says kind one two three zero n h = absurd (n refl)

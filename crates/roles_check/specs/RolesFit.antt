@@ -1,8 +1,9 @@
 -- Refusal 13: each of the 79 places (roles/specs/Roles) is a value line of its sort.
 use Prim.Native.Nat.{ℕ, _+_}
-use mathlib.Core.Bool.{Bool, true, cond, _&&_}
-use mathlib.Core.List.{List, [], _∷_}
-use lib.Dec.{eqb, ltb}
+use mathlib.Core.Bool.{Bool, true, _&&_}
+use mathlib.Core.List.{List, [], _∷_, _++_}
+use lib.Dec.{eqb}
+use lib.ListN.{getD, replicate}
 use Rattle.btor2.specs.declared.NodeRef.{NodeRef}
 use Rattle.btor2.specs.declared.NodeType.{NodeType}
 use Rattle.btor2.specs.declared.NodeType.the-variants.{Bit, Word, Memory}
@@ -12,19 +13,22 @@ use Rattle.btor2_list.specs.declared.Looked.the-variants.{Outside, NoValue, Val
 use Rattle.btor2_list.specs.Look.{lookAt}
 
 -- the number of the sort of a value, 0 where there is none
-abbrev pub valueNumber : Looked → ℕ
-valueNumber Outside = 0
-valueNumber (NoValue nid) = 0
-valueNumber (Value nid s) = sortNumber s
+abbrev pub valueSort : Looked → ℕ
+valueSort Outside = 0
+valueSort (NoValue nid) = 0
+valueSort (Value nid s) = sortNumber s
 
--- "zero and one as Bit and as Word; 32 register nodes and 31 flows, all Word; memory and counter nodes and flows, Memory; counter maximum and
--- its flow, division, remainder and access flows, Word; two overflow flows and the ecall flow, Bit"
+-- the sorts of the roles, in their order: "zero and one as Bit and as Word; 32 register nodes and 31 flows, all Word; memory and counter nodes
+-- and flows, Memory; counter maximum and its flow, division, remainder and access flows, Word; two overflow flows and the ecall flow, Bit"
+abbrev pub roleSorts : List NodeType
+roleSorts =
+    Bit ∷ Bit ∷ Word ∷ Word ∷ Memory ∷ Memory ∷ Word ∷ replicate 32 Word ++ replicate 31 Word
+    ++ (Memory ∷ Memory ∷ Word ∷ Word ∷ Word ∷ Word ∷ Bit ∷ Bit ∷ Bit ∷ [])
+
 abbrev pub roleSort : ℕ → NodeType
-roleSort i =
-    cond (ltb i 2) Bit
-    (cond (ltb i 4) Word (cond (ltb i 6) Memory (cond (ltb i 70) Word (cond (ltb i 72) Memory (cond (ltb i 76) Word Bit)))))
+roleSort i = getD roleSorts i Bit
 
 -- from role i on, each is a value line of its sort
 unfoldable pub rolesFit : List ℕ → ℕ → ℕ → List NodeRef → Bool
 rolesFit ws n i [] = true
-rolesFit ws n i (r ∷ rs) = eqb (valueNumber (lookAt ws n (r .0))) (sortNumber (roleSort i)) && rolesFit ws n (i + 1) rs
+rolesFit ws n i (r ∷ rs) = eqb (valueSort (lookAt ws n (r .0))) (sortNumber (roleSort i)) && rolesFit ws n (i + 1) rs

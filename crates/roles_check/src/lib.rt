@@ -26,11 +26,11 @@ ghost use Rattle.btor2.specs.Sort.{sortNumber};
 ghost use Rattle.btor2_list.specs.declared.Line.{Line};
 ghost use Rattle.btor2_list.specs.Node.{nodeOf};
 ghost use Rattle.btor2_list.specs.Look.{lookAt, seen};
-ghost use Rattle.roles_check.specs.RolesFit.{valueNumber, roleSort, rolesFit};
+ghost use Rattle.roles_check.specs.RolesFit.{valueSort, roleSort, rolesFit};
 
 // The number of the sort of the value at a place, 0 where there is no value.
 pub fn value_sort(list: &[u64], lines: usize, place: NodeRef) -> u64
-    ensures { λ r. ⌜ r ≡ valueNumber (lookAt (now (list .entry)) lines (place .0)) ⌝ }
+    ensures { λ r. ⌜ r ≡ valueSort (lookAt (now (list .entry)) lines (place .0)) ⌝ }
 {
     match look(list, lines, place) {
         Looked::Value(_, sort) => get_sort(sort),
@@ -85,7 +85,7 @@ fn role_sort(role: usize) -> u64
 // these are told without a lookup.
 fn role_out(list: &[u64], lines: usize, held: usize, place: NodeRef, sort: u64) -> bool
     requires { ⌜ (held ≡ length (now list) / 4) × ((sort ≡ 0 → ⊥) × (sort ≤ 3)) ⌝ }
-    ensures { λ r. ⌜ r ≡ not (eqb (valueNumber (lookAt (now (list .entry)) lines (place .0))) sort) ⌝ }
+    ensures { λ r. ⌜ r ≡ not (eqb (valueSort (lookAt (now (list .entry)) lines (place .0))) sort) ⌝ }
 {
     let p = place.0;
     if p < lines {
@@ -104,7 +104,7 @@ fn role_out(list: &[u64], lines: usize, held: usize, place: NodeRef, sort: u64) 
 
 // Whether a record of this kind has the sort that it says, where that is a Bit, a Word or a Memory.
 fn says_own_sort(kind: u64) -> bool
-    ensures { λ r. ⌜ ((l : Line) (s : ℕ) → l .kind ≡ kind → l .sort ≡ s → (s ≡ 0 → ⊥) → s ≤ 3 → r ≡ true → s ≡ valueNumber (seen (nodeOf l))) ⌝ }
+    ensures { λ r. ⌜ ((l : Line) (s : ℕ) → l .kind ≡ kind → l .sort ≡ s → (s ≡ 0 → ⊥) → s ≤ 3 → r ≡ true → s ≡ valueSort (seen (nodeOf l))) ⌝ }
 {
     match kind {
         CONST => true,

@@ -19,7 +19,7 @@ use Rattle.btor2_list.specs.View.{view}
 use Rattle.btor2_list.specs.Look.{seenAs, lookAt}
 use Rattle.btor2_list.proofs.View.{view-length}
 use Rattle.btor2_list.proofs.Seen.{look-line, look-past}
-use Rattle.roles_check.specs.RolesFit.{valueNumber}
+use Rattle.roles_check.specs.RolesFit.{valueSort}
 use Rattle.lowering_laws.specs.Lines.{numbered}
 use Rattle.meaning.specs.Lines.{operators}
 use Rattle.meaning.proofs.Behind.{inside}
@@ -52,27 +52,27 @@ positive Input5Byte = lit< tt
 positive Input6Byte = lit< tt
 positive Input7Byte = lit< tt
 
-seen-is : (nid : ℕ) (m : MaybeSort) (s : NodeType) → valueNumber (seenAs nid m) ≡ sortNumber s → T (hasSort s m)
+seen-is : (nid : ℕ) (m : MaybeSort) (s : NodeType) → valueSort (seenAs nid m) ≡ sortNumber s → T (hasSort s m)
 seen-is nid (Sort t) s e = subst (λ (k : ℕ). T (eqb (sortNumber s) k)) (sym e) (eqb-refl (sortNumber s))
 seen-is nid NoSort s e = absurd (omega (arith, positive s))
 
-pub look-is : (ws : List ℕ) (n : ℕ) → n * stride ≤ length ws → (p : ℕ) (s : NodeType) → valueNumber (lookAt ws n p) ≡ sortNumber s → T (lineIs s (operators ws n) p)
+pub look-is : (ws : List ℕ) (n : ℕ) → n * stride ≤ length ws → (p : ℕ) (s : NodeType) → valueSort (lookAt ws n p) ≡ sortNumber s → T (lineIs s (operators ws n) p)
 unfolding lineIs operators
 look-is ws n room p s e =
     by-le n p
-    (λ h. absurd (omega (arith, positive s, sym (ap valueNumber (look-past ws n room p h)) ∙ e)))
+    (λ h. absurd (omega (arith, positive s, sym (ap valueSort (look-past ws n room p h)) ∙ e)))
     (λ h.
     subst (λ (o : Op ℕ). T (hasSort s (carried o))) (sym (List·getD-map (λ (line : Node). line .op) (view ws n) p (node 0 unknown)))
-    (seen-is (getD (view ws n) p (node 0 unknown) .nid) (carried (getD (view ws n) p (node 0 unknown) .op)) s (sym (ap valueNumber (look-line ws n room p (node 0 unknown) h)) ∙ e)))
+    (seen-is (getD (view ws n) p (node 0 unknown) .nid) (carried (getD (view ws n) p (node 0 unknown) .op)) s (sym (ap valueSort (look-line ws n room p (node 0 unknown) h)) ∙ e)))
 
 -- and back
-is-seen : (nid : ℕ) (m : MaybeSort) (s : NodeType) → T (hasSort s m) → valueNumber (seenAs nid m) ≡ sortNumber s
+is-seen : (nid : ℕ) (m : MaybeSort) (s : NodeType) → T (hasSort s m) → valueSort (seenAs nid m) ≡ sortNumber s
 is-seen nid (Sort t) s h = sym (eqb→eq (sortNumber s) (sortNumber t) h)
 is-seen nid NoSort s h = absurd h
 
-pub is-look : (ws : List ℕ) (n : ℕ) → n * stride ≤ length ws → (p : ℕ) (s : NodeType) → T (lineIs s (operators ws n) p) → valueNumber (lookAt ws n p) ≡ sortNumber s
+pub is-look : (ws : List ℕ) (n : ℕ) → n * stride ≤ length ws → (p : ℕ) (s : NodeType) → T (lineIs s (operators ws n) p) → valueSort (lookAt ws n p) ≡ sortNumber s
 unfolding lineIs operators
 is-look ws n room p s h =
-    ap valueNumber (look-line ws n room p (node 0 unknown) (rw (operators-length ws n) at (inside s (operators ws n) p h)))
+    ap valueSort (look-line ws n room p (node 0 unknown) (rw (operators-length ws n) at (inside s (operators ws n) p h)))
     ∙ is-seen (getD (view ws n) p (node 0 unknown) .nid) (carried (getD (view ws n) p (node 0 unknown) .op)) s
     (subst (λ (o : Op ℕ). T (hasSort s (carried o))) (List·getD-map (λ (line : Node). line .op) (view ws n) p (node 0 unknown)) h)

@@ -1,10 +1,8 @@
 // The check of a start: whoever prepares it is refused with 9 to 13.
-use builder::Tally;
 use list_check::unformed;
-use lowering_refusals::Counts;
-use lowering_refusals::MOST_LINES;
-use lowering_refusals::Room;
+use lowering_refusals::MOST_START_NID;
 use lowering_refusals::State;
+use lowering_refusals::counts_out;
 use lowering_refusals::room_of;
 use nid_check::nids_out;
 use roles_check::roles_out;
@@ -12,10 +10,7 @@ use sort_check::sort_broken;
 ghost use mathlib.Core.Path.{_≡_};
 ghost use lib.ListN.{length};
 ghost use Rattle.lowering_refusals.specs.Refusal.{roomOf};
-ghost use Rattle.start.specs.Start.{startCountsOut, startRefusal};
-
-// The largest next identifier at a start.
-pub const MOST_START_NID: u64 = 2_147_483_648;
+ghost use Rattle.start.specs.Start.{startRefusal};
 
 // The first of 9 to 13 that applies to a start, or 0: each is looked for in the whole list before the next. `state` says how much of each
 // lent list is in use, the next identifier and the roles. Nothing is written.
@@ -39,7 +34,7 @@ pub fn check_start(
     );
     let t = state.tally;
     let c = state.counts;
-    if counts_out(room, t, c) {
+    if counts_out(MOST_START_NID, room, t, c) {
         return 9;
     }
     if nids_out(list, t.lines, t.nid) {
@@ -56,29 +51,4 @@ pub fn check_start(
         return 13;
     }
     0
-}
-
-// 9: too many lines, too large an identifier, or a count above its storage.
-fn counts_out(room: Room, t: Tally, c: Counts) -> bool
-    ensures { λ r. ⌜ r ≡ startCountsOut room t c ⌝ }
-{
-    if MOST_LINES < t.lines {
-        return true;
-    }
-    if MOST_START_NID < t.nid {
-        return true;
-    }
-    if room.lines < t.lines {
-        return true;
-    }
-    if room.names < c.names {
-        return true;
-    }
-    if room.edges < c.edges {
-        return true;
-    }
-    if room.dispatches < c.dispatches {
-        return true;
-    }
-    room.bads < c.bads
 }

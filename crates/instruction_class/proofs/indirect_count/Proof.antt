@@ -5,16 +5,16 @@ use Rattle.instruction_class.proofs.indirect_count.Statement.{statement
 use Rattle.instruction_class.proofs.indirect_count.Tie as tie
 
 returns : tie.Need-returns
-returns c = (rw (c .before .if1 .taken, c .if2 .taken), omega arith)
+returns c = rw (c .before .if1 .taken, c .if2 .taken)
 
 returns-2 : tie.Need-returns-2
-returns-2 c = (rw (c .before .if1 .taken, c .if2 .left), omega arith)
+returns-2 c = rw (c .before .if1 .taken, c .if2 .left)
 
 returns-3 : tie.Need-returns-3
-returns-3 c = (rw (c .before .if1 .left, c .if3 .taken), omega arith)
+returns-3 c = rw (c .before .if1 .left, c .if3 .taken)
 
 returns-4 : tie.Need-returns-4
-returns-4 c = (rw (c .before .if1 .left, c .if3 .left) (omega arith), omega arith)
+returns-4 c = rw (c .before .if1 .left, c .if3 .left) (omega arith)
 
 pub indirect-count-spec : {M : Type 1} → statement M
 indirect-count-spec = tie.close (tie.spec returns returns-2 (λ c. search needs) returns-3 returns-4)

@@ -1,27 +1,19 @@
--- Each class counts in its own way. Assumes nothing.
-use mathlib.Core.Path.{sym, _∙_}
-use native.Mathlib.Nat.{add-zero}
+-- The class's count of the kind's number, of which none is over 35. Assumes nothing.
+use mathlib.Core.Path.{ap₂, _∙_}
 use native.Mathlib.Omega.{arith}
 use borrow.Author.Needs.{needs}
+use Rattle.riscv.specs.Kind.{kindAt}
+use Rattle.instruction_class.specs.Class.{countOf}
+use Rattle.instruction_class.proofs.Most.{at-most}
 use Rattle.instruction_class.proofs.line_count.Statement.{statement}
 use Rattle.instruction_class.proofs.line_count.Tie as tie
 
-returns-2 : tie.Need-returns-2
-returns-2 c =
-    let n = c .before .before .before .plain-count in
-    (rw (c .before .enum-told2 .given .1, c .if1 .taken) (n .ensures .0 ∙ sym (add-zero _)), omega (arith, n .ensures .1))
-
-returns-3 : tie.Need-returns-3
-returns-3 c =
-    let n = c .before .before .before .plain-count in
-    (rw (c .before .enum-told2 .given .1, c .if1 .left, ← n .ensures .0), omega (arith, n .ensures .1))
-
-returns-10 : tie.Need-returns-10
-returns-10 c =
-    let n = c .before .before .before .plain-count in
-    (rw (c .before .enum-told6 .given .1, ← n .ensures .0) (c .indirect-count .ensures .0), omega (arith, c .indirect-count .ensures .1))
+returns : tie.Need-returns
+returns c =
+    let kind = c .before .before .before .args .kind in
+    let a = c .before .before .before .args in
+    let is = c .count-of .ensures ∙ ap₂ (λ k n. countOf k n (a .z) (a .d) (a .s)) (c .before .before .class-of .ensures) (c .before .plain-count .ensures .0) in
+    (is, rw is (at-most (kindAt kind) (a .z) (a .d) (a .s)))
 
 pub line-count-spec : {M : Type 1} → statement M
-line-count-spec =
-    tie.close
-    (tie.spec (λ c κs. search needs) (λ c. search needs) (λ c. search needs) (λ c. search needs) (λ c. search needs) (λ c. search needs) (λ c. search needs) (λ c. search needs) (λ c κs. search needs) (λ c. search needs) (λ c. search needs) returns-2 returns-3 (λ c. search needs) (λ c. search needs) (λ c. search needs) (λ c. search needs) (λ c. search needs) (λ c. search needs) returns-10 (λ c. search needs))
+line-count-spec = tie.close (tie.spec (λ c κs. search needs) (λ c κs. search needs) (λ c κs. search needs) returns)

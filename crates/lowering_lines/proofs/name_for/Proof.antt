@@ -1,16 +1,17 @@
--- Only Jalr has one. Assumes nothing.
+-- Only Jalr under x0 has one. Assumes nothing.
+use mathlib.Core.Path.{sym, _∙_}
 use borrow.Author.Needs.{needs}
 use Rattle.lowering_lines.proofs.name_for.Statement.{statement}
 use Rattle.lowering_lines.proofs.name_for.Tie as tie
 
+returns : tie.Need-returns
+returns c = rw (sym (c .before .before .before .is-indirect .ensures) ∙ c .before .before .if1 .taken, c .before .if2 .taken, ← c .bad-name-len .ensures .0)
+
+returns-2 : tie.Need-returns-2
+returns-2 c = rw (sym (c .before .before .before .is-indirect .ensures) ∙ c .before .before .if1 .taken, c .before .if2 .left) (c .no-name .ensures)
+
+returns-3 : tie.Need-returns-3
+returns-3 c = rw (sym (c .before .before .is-indirect .ensures) ∙ c .before .if1 .left) (c .no-name2 .ensures)
+
 pub name-for-spec : {M : Type 1} → statement M
-name-for-spec =
-    tie.close
-    (tie.spec (λ c. search needs) (λ c κs. search needs) (λ c. search needs) (λ c κs. search needs) (λ c. search needs) (λ c κs. search needs) (λ c. search needs) (λ c κs. search needs) (λ c. search needs) (λ c κs. search needs) (λ c. search needs) (λ c κs. search needs) (λ c. search needs) (λ c κs. search needs)
-    (λ c. rw (c .before .enum-told .given .1) (c .no-name .ensures))
-    (λ c. rw (c .before .enum-told2 .given .1) (c .no-name2 .ensures))
-    (λ c. rw (c .before .enum-told3 .given .1) (c .no-name3 .ensures))
-    (λ c. rw (c .before .enum-told4 .given .1) (c .no-name4 .ensures))
-    (λ c. rw (c .before .enum-told5 .given .1) (c .no-name5 .ensures))
-    (λ c. rw (c .before .enum-told6 .given .1) (c .indirect-name .ensures))
-    (λ c. rw (c .before .enum-told7 .given .1) (c .no-name6 .ensures)))
+name-for-spec = tie.close (tie.spec (λ c κs. search needs) (λ c κs. search needs) returns (λ c κs. search needs) returns-2 (λ c κs. search needs) returns-3)

@@ -10,7 +10,7 @@ use borrow.Author.Needs.{needs}
 use Rattle.btor2.specs.Sort.{sortNumber}
 use Rattle.btor2_list.specs.Look.{lookAt}
 use Rattle.roles.specs.Roles.{role}
-use Rattle.roles_check.specs.RolesFit.{valueNumber, roleSort, rolesFit}
+use Rattle.roles_check.specs.RolesFit.{valueSort, roleSort, rolesFit}
 use Rattle.roles_check.proofs.Sorts.{out-not, out-is}
 use Rattle.roles_check.proofs.roles_out.Statement.{statement}
 use Rattle.roles_check.proofs.roles_out.Tie as tie
@@ -34,7 +34,7 @@ returns c =
     let l = q .before .before .before in
     let a = l .before .before .args in
     sym (ap not (sym (l .loop .inv .2) ∙ fit-not (now (a .list)) (a .lines) (a .t3) (l .loop .role) (omega arith)
-    (out-not (o .role-out .result) (valueNumber (lookAt (now (a .list)) (a .lines) (role (a .t3) (l .loop .role) .0))) (q .role-sort .result) (sortNumber (roleSort (l .loop .role))) (o .role-out .ensures) (q .role-sort .ensures .0) (c .if1 .taken))))
+    (out-not (o .role-out .result) (valueSort (lookAt (now (a .list)) (a .lines) (role (a .t3) (l .loop .role) .0))) (q .role-sort .result) (sortNumber (roleSort (l .loop .role))) (o .role-out .ensures) (q .role-sort .ensures .0) (c .if1 .taken))))
 
 loop-less : tie.Need-loop-less Inv-loop μ-loop
 loop-less c = omega arith
@@ -48,7 +48,7 @@ loop-again c =
       omega arith,
       l .loop .inv .1,
       fit-on (now (a .list)) (a .lines) (a .t3) (l .loop .role) (omega arith)
-          (out-is (o .role-out .result) (valueNumber (lookAt (now (a .list)) (a .lines) (role (a .t3) (l .loop .role) .0))) (q .role-sort .result) (sortNumber (roleSort (l .loop .role))) (o .role-out .ensures) (q .role-sort .ensures .0) (c .if1 .left)) ∙ l .loop .inv .2,
+          (out-is (o .role-out .result) (valueSort (lookAt (now (a .list)) (a .lines) (role (a .t3) (l .loop .role) .0))) (q .role-sort .result) (sortNumber (roleSort (l .loop .role))) (o .role-out .ensures) (q .role-sort .ensures .0) (c .if1 .left)) ∙ l .loop .inv .2,
     )
 
 returns-2 : tie.Need-returns-2 Inv-loop μ-loop

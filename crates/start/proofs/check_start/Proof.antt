@@ -11,10 +11,10 @@ use Rattle.riscv.specs.Refusal.{first}
 use Rattle.riscv.proofs.First.{hit, miss}
 use Rattle.list_check.specs.Lines.{pastWords}
 use Rattle.lowering_refusals.specs.declared.Room.{Room}
-use Rattle.lowering_refusals.specs.Refusal.{roomOf}
-use Rattle.start.specs.Start.{startCountsOut, startRefusal}
+use Rattle.lowering_refusals.specs.Refusal.{mostStartNid, roomOf, countsOut}
+use Rattle.lowering_refusals.proofs.Within.{within}
+use Rattle.start.specs.Start.{startRefusal}
 use Rattle.start.proofs.Tests.{from10, from11, from12, from13}
-use Rattle.start.proofs.Accepted.{within-start}
 use Rattle.start.proofs.check_start.Statement.{statement}
 use Rattle.start.proofs.check_start.Tie as tie
 
@@ -23,7 +23,7 @@ roomIn list names edges dispatches bads = roomOf (length list) (length names) (l
 
 -- 9, of the room that was computed
 counted : (c : tie.After-counts-out) → let a = c .before .before .before .before .before .before .before .before .before .before .args in
-    c .counts-out .result ≡ startCountsOut (roomIn (now (a .list)) (now (a .names)) (now (a .edges)) (now (a .dispatches)) (now (a .bads))) (a .state .tally) (a .state .counts)
+    c .counts-out .result ≡ countsOut mostStartNid (roomIn (now (a .list)) (now (a .names)) (now (a .edges)) (now (a .dispatches)) (now (a .bads))) (a .state .tally) (a .state .counts)
 counted c = rw (c .before .before .before .room-of .ensures) at (c .counts-out .ensures)
 
 -- past it the words hold the lines
@@ -32,8 +32,8 @@ unfolding roomOf
 held c =
     let a = c .before .before .before .before .before .before .before .before .before .before .before .args in
     le-ltb (length (now (a .list)) / 4) (a .state .tally .lines)
-    (within-start (roomIn (now (a .list)) (now (a .names)) (now (a .edges)) (now (a .dispatches)) (now (a .bads))) (a .state .tally) (a .state .counts)
-    (sym (counted (c .before)) ∙ c .if1 .left) .0 .lines)
+    (within mostStartNid (roomIn (now (a .list)) (now (a .names)) (now (a .edges)) (now (a .dispatches)) (now (a .bads))) (a .state .tally) (a .state .counts)
+    (sym (counted (c .before)) ∙ c .if1 .left) .lines)
 
 past9 : (c : tie.Else1) {x : ℕ} → let a = c .before .before .before .before .before .before .before .before .before .before .before .args in
     x ≡ first (from10 (now (a .list)) (length (now (a .host))) (roomIn (now (a .list)) (now (a .names)) (now (a .edges)) (now (a .dispatches)) (now (a .bads))) (a .state)) → x ≡ startRefusal (now (a .list)) (length (now (a .host))) (roomIn (now (a .list)) (now (a .names)) (now (a .edges)) (now (a .dispatches)) (now (a .bads))) (a .state)

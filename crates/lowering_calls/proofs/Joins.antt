@@ -1,0 +1,67 @@
+-- A call apart from the roles is the call with them. Assumes nothing.
+use Prim.Native.Nat.{ℕ, _≤_}
+use mathlib.Core.Path.{_≡_, refl, sym, ap, _∙_}
+use mathlib.Core.Bool.{Bool, true, false, cond}
+use mathlib.Core.List.{List}
+use lib.Dec.{eqb}
+use lib.ListN.{length}
+use Rattle.btor2.specs.declared.NodeRef.{NodeRef}
+use Rattle.program.specs.Prog.{exec}
+use Rattle.builder.specs.declared.Tally.{Tally}
+use Rattle.builder.specs.Append.{at, append}
+use Rattle.riscv.specs.declared.Instruction.{Instruction}
+use Rattle.lowering_refusals.specs.declared.Counts.{Counts}
+use Rattle.lowering_refusals.specs.declared.State.{State}
+use Rattle.lowering_refusals.specs.Refusal.{refusalGiven}
+use Rattle.lowering_lines.specs.declared.Reads.{Reads}
+use Rattle.lowering_lines.specs.Lines.{programFrom}
+use Rattle.lowering.specs.Lowering.{Lent, Answer, roomIn, readsIn, programOf, settled, refused, loweringGiven}
+use Rattle.lowering.specs.Words.{stateWords, rolesIn, stateIn, withState, given, givenBy}
+use Rattle.lowering.proofs.Refused.{refused-kept}
+use Rattle.lowering.proofs.Words.{state-kept}
+use Rattle.lowering_calls.specs.Apart.{Told, acceptedApart, refusedApart, callApart, stateOf, rolesAfter, joined}
+use Rattle.lowering_calls.specs.Known.{knownWords}
+
+module _ (fits : Bool) (l : Lent) (roles : List NodeRef) (t : Tally) (c : Counts) (i : Instruction) (pc : ℕ) (flag : NodeRef) where
+  pub joins : joined roles (i .rd) (callApart fits l t c (readsIn roles flag i) i pc flag) ≡ loweringGiven fits l (stateOf t c roles) i pc flag
+  unfolding callApart loweringGiven acceptedApart settled programOf
+  joins = go (eqb n 0) refl
+    where
+      n : ℕ
+      n = refusalGiven fits (l .list) (roomIn l) t c i pc (flag .0)
+
+      p : Told
+      p = acceptedApart l t c i pc (exec append (at (l .list) t) (programFrom (readsIn roles flag i) (c .names) i pc))
+
+      go : (b : Bool) → eqb n 0 ≡ b
+          → joined roles (i .rd) (cond b p (refusedApart n l t c (readsIn roles flag i)))
+          ≡ cond b (settled l (stateOf t c roles) i pc (exec append (at (l .list) t) (programOf (stateOf t c roles) i pc flag))) (refused n l (stateOf t c roles))
+      go true q = refl
+      go false q = rw q
+
+parted : (ws : List ℕ) → stateOf (stateIn ws .tally) (stateIn ws .counts) (rolesIn ws) ≡ stateIn ws
+unfolding stateIn
+parted ws = refl
+
+-- over words: what was read of them, and what the call gave
+module _ (fits : Bool) (l : Lent) (ws : List ℕ) (i : Instruction) (pc : ℕ) (flag : NodeRef) (t : Tally) (c : Counts) (e : Reads) (p : Told) (enough : stateWords ≤ length ws) (t-is : t ≡ stateIn ws .tally) (c-is : c ≡ stateIn ws .counts)
+    (e-is : e ≡ readsIn (rolesIn ws) flag i) (gave : p ≡ callApart fits l t c e i pc flag) where
+  whole : joined (rolesIn ws) (i .rd) p ≡ loweringGiven fits l (stateIn ws) i pc flag
+  whole =
+      ap (joined (rolesIn ws) (i .rd))
+      (gave ∙ ap (λ (x : Tally). callApart fits l x c e i pc flag) t-is ∙ ap (λ (x : Counts). callApart fits l (stateIn ws .tally) x e i pc flag) c-is
+      ∙ ap (λ (x : Reads). callApart fits l (stateIn ws .tally) (stateIn ws .counts) x i pc flag) e-is)
+      ∙ joins fits l (rolesIn ws) (stateIn ws .tally) (stateIn ws .counts) i pc flag
+      ∙ ap (λ (s : State). loweringGiven fits l s i pc flag) (parted ws)
+
+  pub not-written : (p .refusal ≡ 0 → ⊥) → given (p .refusal) (p .lent) ws ≡ knownWords fits l ws i pc flag
+  unfolding knownWords
+  not-written n =
+      let kept : joined (rolesIn ws) (i .rd) p .lowered .state ≡ stateIn ws = ap (λ (a : Answer). a .lowered .state) whole ∙ refused-kept fits l (stateIn ws) i pc flag (λ z. n (ap (λ (a : Answer). a .lowered .refusal) whole ∙ z)) in
+      ap (given (p .refusal) (p .lent)) (sym (ap (withState ws) kept ∙ state-kept ws enough)) ∙ ap (givenBy ws) whole
+
+  pub written : p .refusal ≡ 0 → given 0 (p .lent) (withState ws (stateOf (p .tally) (p .counts) (rolesAfter (rolesIn ws) (i .rd) p))) ≡ knownWords fits l ws i pc flag
+  unfolding knownWords
+  written z =
+      let all : given 0 (p .lent) (withState ws (stateOf (p .tally) (p .counts) (rolesAfter (rolesIn ws) (i .rd) p))) ≡ givenBy ws (joined (rolesIn ws) (i .rd) p) = rw z in
+      all ∙ ap (givenBy ws) whole

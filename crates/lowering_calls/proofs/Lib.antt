@@ -1,0 +1,7 @@
+pub mod Stored
+pub mod Put
+pub mod Joins
+pub mod Ready
+pub mod Steps
+pub mod Same
+pub mod Entries

@@ -1,0 +1,45 @@
+-- One call of many, and the words of what is left. Assumes nothing.
+use Prim.Native.Nat.{ℕ, suc, _+_, _-_, _*_, _/_, _≤_, _<_}
+use mathlib.Core.Path.{_≡_, subst}
+use mathlib.Core.Bool.{Bool, true, false}
+use mathlib.Core.List.{List, _∷_}
+use native.Mathlib.Omega.{arith}
+use borrow.Author.Tests.{eq-eqb, ne-eqb}
+use lib.Dec.{eqb}
+use lib.ListN.{length, drop}
+use lib.Seq.{drop-drop}
+use Rattle.lowering.specs.Lowering.{Lent}
+use Rattle.lowering.specs.Words.{Given}
+use Rattle.lowering.specs.All.{Call, callIn, callsIn, GivenAll, givenAll}
+use Rattle.lowering_calls.specs.Known.{knownWords, wordsOn, wordsAll}
+
+-- at the start
+pub from-none : (fits : Bool) (l : Lent) (ws calls : List ℕ) → wordsOn fits 0 l ws (callsIn (length calls / 7 - 0) (drop (0 * 7) calls)) ≡ wordsAll fits l ws calls
+unfolding wordsAll
+from-none fits l ws calls = let all : length calls / 7 - 0 ≡ length calls / 7 = omega arith in rw all
+
+-- the next call's words, and those after them
+pub calls-next : (n k : ℕ) (ws : List ℕ) → k < n → callsIn (n - k) (drop (k * 7) ws) ≡ callIn (drop (k * 7) ws) ∷ callsIn (n - (k + 1)) (drop ((k + 1) * 7) ws)
+unfolding callsIn
+calls-next n k ws h =
+    let more : n - k ≡ suc (n - (k + 1)) = omega arith in
+    let on : k * 7 + 7 ≡ (k + 1) * 7 = omega arith in
+    rw (more, drop-drop 7 (k * 7) ws, on)
+
+-- none is left
+pub ends : (fits : Bool) (n k : ℕ) (l : Lent) (ws calls : List ℕ) → n ≤ k → givenAll k 0 l ws ≡ wordsOn fits k l ws (callsIn (n - k) calls)
+unfolding callsIn wordsOn
+ends fits n k l ws calls h = let none : n - k ≡ 0 = omega arith in rw none
+
+module _ (fits : Bool) (l : Lent) (ws : List ℕ) (c : Call) (g : Given) (is : g ≡ knownWords fits l ws (c .instruction) (c .address) (c .flag)) (done : ℕ) (cs : List Call) where
+  -- what is made of an answer
+  abbrev then : Given → GivenAll
+  then x = elim (eqb (x .refusal) 0) [ true ↦ wordsOn fits (done + 1) (x .lent) (x .state) cs | false ↦ givenAll done (x .refusal) (x .lent) (x .state) ]
+
+  pub stops : (g .refusal ≡ 0 → ⊥) → givenAll done (g .refusal) (g .lent) (g .state) ≡ wordsOn fits done l ws (c ∷ cs)
+  unfolding wordsOn
+  stops h = subst (λ (x : Given). givenAll done (g .refusal) (g .lent) (g .state) ≡ then x) is (rw (then, ne-eqb (g .refusal) 0 h))
+
+  pub goes-on : g .refusal ≡ 0 → wordsOn fits (done + 1) (g .lent) (g .state) cs ≡ wordsOn fits done l ws (c ∷ cs)
+  unfolding wordsOn
+  goes-on h = subst (λ (x : Given). wordsOn fits (done + 1) (g .lent) (g .state) cs ≡ then x) is (rw (then, eq-eqb (g .refusal) 0 h))

@@ -1,0 +1,81 @@
+-- A call apart from the roles, for private functions: what it gives, by what is read of them.
+use Prim.Native.Nat.{ℕ}
+use mathlib.Core.Bool.{Bool, cond}
+use mathlib.Core.List.{List}
+use lib.Dec.{eqb}
+use Rattle.btor2.specs.declared.NodeRef.{NodeRef}
+use Rattle.builder.specs.declared.Tally.{Tally}
+use Rattle.builder.specs.Append.{Store, at, append}
+use Rattle.program.specs.Prog.{Run, exec}
+use Rattle.instruction_class.specs.Class.{class}
+use Rattle.edges.specs.Edges.{edgesAfter}
+use Rattle.models.specs.Places as P
+use Rattle.models.specs.Code.{flowsOf, outcomeOf}
+use Rattle.riscv.specs.declared.Instruction.{Instruction}
+use Rattle.riscv.specs.Kind.{kindAt}
+use Rattle.roles.specs.Roles.{withFlows, withOutcome}
+use Rattle.lowering_refusals.specs.declared.Counts.{Counts}
+use Rattle.lowering_refusals.specs.declared.State.{State}
+use Rattle.lowering_refusals.specs.Refusal.{needs, refusalGiven}
+use Rattle.lowering_lines.specs.declared.Reads.{Reads}
+use Rattle.lowering_lines.specs.Lines.{programFrom}
+use Rattle.lowering.specs.Lowering.{Lent, lent, Answer, roomIn, namesAfter, dispatchesAfter, badsAfter, countsAfter}
+use Rattle.lowering_calls.specs.declared.apart.Apart.{Apart}
+
+-- what the call gives, with the lent lists
+pub record Told : Type 0 where
+  pub refusal : ℕ
+  pub tally : Tally
+  pub counts : Counts
+  pub flows : P.Flows ℕ
+  pub outcome : P.Outcome ℕ
+  pub lent : Lent
+
+abbrev pub told : Apart → Lent → Told
+told p l = record {
+  refusal = p .refusal;
+  tally = p .tally;
+  counts = p .counts;
+  flows = flowsOf (p .flows);
+  outcome = outcomeOf (p .outcome);
+  lent = l;
+}
+
+unfoldable pub acceptedApart : Lent → Tally → Counts → Instruction → ℕ → Run Store (P.Modeled ℕ) → Told
+acceptedApart l t c i pc r =
+    let k = class (kindAt (i .kind)) in
+    let d = eqb (i .rd) 0 in
+    let s = eqb (i .rs1) 0 in
+    record {
+      refusal = 0;
+      tally = r .state .tally;
+      counts = countsAfter c (needs i pc);
+      flows = r .value .flows;
+      outcome = r .value .outcome;
+      lent = lent (r .state .words)
+          (namesAfter (l .names) (c .names) k s pc)
+          (edgesAfter (l .edges) (c .edges) k pc (i .imm) (r .value .outcome))
+          (dispatchesAfter (l .dispatches) (c .dispatches) k s (i .rs1) pc)
+          (badsAfter (l .bads) (c .bads) k s d (t .lines));
+    }
+
+abbrev pub refusedApart : ℕ → Lent → Tally → Counts → Reads → Told
+refusedApart n l t c e = record { refusal = n; tally = t; counts = c; flows = flowsOf (e .flows); outcome = P.nothing; lent = l }
+
+unfoldable pub callApart : Bool → Lent → Tally → Counts → Reads → Instruction → ℕ → NodeRef → Told
+callApart fits l t c e i pc flag =
+    let n = refusalGiven fits (l .list) (roomIn l) t c i pc (flag .0) in
+    cond (eqb n 0) (acceptedApart l t c i pc (exec append (at (l .list) t) (programFrom e (c .names) i pc))) (refusedApart n l t c e)
+
+-- with the roles: those that an accepted call sets are set
+abbrev pub stateOf : Tally → Counts → List NodeRef → State
+stateOf t c roles = record { tally = t; counts = c; roles = roles }
+
+abbrev pub rolesAfter : List NodeRef → ℕ → Told → List NodeRef
+rolesAfter roles rd p = withOutcome (withFlows roles (p .flows)) rd (p .outcome)
+
+abbrev pub joined : List NodeRef → ℕ → Told → Answer
+joined roles rd p = record {
+  lowered = record { refusal = p .refusal; state = stateOf (p .tally) (p .counts) (cond (eqb (p .refusal) 0) (rolesAfter roles rd p) roles) };
+  lent = p .lent;
+}

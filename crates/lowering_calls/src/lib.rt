@@ -1,0 +1,262 @@
+// The calls: one instruction over the state's words or over a state, and many in one. Each tests the roles itself; many test them once, since an
+// accepted call's roles fit again (crates/roles_kept).
+mod refusals;
+mod apart;
+mod words;
+
+use apart::lower_apart;
+use btor2::NodeRef;
+use lowering::Lowered;
+use lowering_refusals::State;
+use riscv::Instruction;
+ghost use mathlib.Core.Path.{_≡_};
+ghost use mathlib.Core.Bool.{not};
+ghost use Prim.Native.Nat.{_+_, _*_, _≤_};
+ghost use lib.ListN.{length, drop};
+ghost use Rattle.roles_check.specs.RolesFit.{rolesFit};
+ghost use Rattle.lowering.specs.Lowering.{lent, answer, lowering};
+ghost use Rattle.lowering.specs.Words.{stateWords, stateIn, given, loweringWords};
+ghost use Rattle.lowering.specs.All.{callWords, callIn, givenAll, loweringAllWords};
+ghost use Rattle.lowering_calls.specs.Known.{knownWords, wordsAll};
+
+// The words of a state: lines, next identifier, counts of names, edges, dispatches and bads, and the roles.
+pub const STATE_WORDS: usize = words::STATE_WORDS;
+
+// The words of a call: address, kind, rd, rs1, rs2, imm, flag.
+pub const CALL: usize = 7;
+
+// The flag of a call that has none: a place that no list reaches.
+pub const NO_FLAG: NodeRef = NodeRef(0xffff_ffff_ffff_ffff);
+
+// A count above its storage.
+const BAD_COUNT: u64 = 9;
+
+// How many calls were accepted, and the refusal of the next one, 0 where there is none.
+pub struct Stopped {
+    pub done: usize,
+    pub refusal: u64,
+}
+
+// Lowers an instruction at an address under a flag. `state` says how much of each lent list is in use, the next identifier and the roles.
+// A refused call changes nothing.
+pub fn lower(
+    list: &mut [u64],
+    names: &mut [u8],
+    edges: &mut [u64],
+    dispatches: &mut [u64],
+    bads: &mut [u64],
+    state: State,
+    i: Instruction,
+    address: u64,
+    flag: NodeRef,
+) -> Lowered
+    ensures { λ r. ⌜ answer r (lent (now (list .exit)) (now (names .exit)) (now (edges .exit)) (now (dispatches .exit)) (now (bads .exit))) ≡ lowering (lent (now (list .entry)) (now (names .entry)) (now (edges .entry)) (now (dispatches .entry)) (now (bads .entry))) state i address flag ⌝ }
+{
+    let t = state.tally;
+    let c = state.counts;
+    let places = state.roles;
+    let mut words = words::words_of(t, c, places);
+    let refusal = lower_words(
+        list,
+        names,
+        edges,
+        dispatches,
+        bads,
+        &mut words,
+        i,
+        address,
+        flag,
+    );
+    let after = words::state_in(&words);
+    Lowered {
+        refusal,
+        state: after,
+    }
+}
+
+// The same over the state's words, which the host keeps. Gives the number of the refusal, or 0; 9 where there are fewer words than a state has.
+pub fn lower_words(
+    list: &mut [u64],
+    names: &mut [u8],
+    edges: &mut [u64],
+    dispatches: &mut [u64],
+    bads: &mut [u64],
+    state: &mut [u64],
+    i: Instruction,
+    address: u64,
+    flag: NodeRef,
+) -> u64
+    ensures { λ r. ⌜ given r (lent (now (list .exit)) (now (names .exit)) (now (edges .exit)) (now (dispatches .exit)) (now (bads .exit))) (now (state .exit)) ≡ loweringWords (lent (now (list .entry)) (now (names .entry)) (now (edges .entry)) (now (dispatches .entry)) (now (bads .entry))) (now (state .entry)) i address flag ⌝ }
+{
+    if state.len() < STATE_WORDS {
+        return BAD_COUNT;
+    }
+    let fits = roles_fit(list, state);
+    lower_known(
+        list,
+        names,
+        edges,
+        dispatches,
+        bads,
+        state,
+        i,
+        address,
+        flag,
+        fits,
+    )
+}
+
+// Lowers call after call, seven words each, and stops at the first that is refused: what those before it did stays.
+pub fn lower_all(
+    list: &mut [u64],
+    names: &mut [u8],
+    edges: &mut [u64],
+    dispatches: &mut [u64],
+    bads: &mut [u64],
+    state: &mut [u64],
+    calls: &[u64],
+) -> Stopped
+    ensures { λ r. ⌜ givenAll (r .done) (r .refusal) (lent (now (list .exit)) (now (names .exit)) (now (edges .exit)) (now (dispatches .exit)) (now (bads .exit))) (now (state .exit)) ≡ loweringAllWords (lent (now (list .entry)) (now (names .entry)) (now (edges .entry)) (now (dispatches .entry)) (now (bads .entry))) (now (state .entry)) (now (calls .entry)) ⌝ }
+{
+    if state.len() < STATE_WORDS {
+        return Stopped {
+            done: 0,
+            refusal: BAD_COUNT,
+        };
+    }
+    let fits = roles_fit(list, state);
+    lower_rest(list, names, edges, dispatches, bads, state, calls, fits)
+}
+
+// The state in words; 0 for a word that is missing.
+pub fn state_in(words: &[u64]) -> State
+    ensures { λ r. ⌜ r ≡ stateIn (now (words .entry)) ⌝ }
+{
+    words::state_in(words)
+}
+
+// Whether the roles of the state in these words fit.
+fn roles_fit(list: &[u64], words: &[u64]) -> bool
+    ensures { λ r. ⌜ r ≡ rolesFit (now (list .entry)) (stateIn (now (words .entry)) .tally .lines) 0 (stateIn (now (words .entry)) .roles) ⌝ }
+{
+    let state = words::state_in(words);
+    let t = state.tally;
+    let places = state.roles;
+    !roles_check::roles_out(list, t.lines, places)
+}
+
+// A call over the state's words where it is known whether the roles fit.
+fn lower_known(
+    list: &mut [u64],
+    names: &mut [u8],
+    edges: &mut [u64],
+    dispatches: &mut [u64],
+    bads: &mut [u64],
+    state: &mut [u64],
+    i: Instruction,
+    address: u64,
+    flag: NodeRef,
+    fits: bool,
+) -> u64
+    requires { ⌜ stateWords ≤ length (now state) ⌝ }
+    ensures { λ r. ⌜ given r (lent (now (list .exit)) (now (names .exit)) (now (edges .exit)) (now (dispatches .exit)) (now (bads .exit))) (now (state .exit)) ≡ knownWords fits (lent (now (list .entry)) (now (names .entry)) (now (edges .entry)) (now (dispatches .entry)) (now (bads .entry))) (now (state .entry)) i address flag ⌝ }
+{
+    let t = words::tally_in(state);
+    let c = words::counts_in(state);
+    let e = words::reads_in(state, flag, i);
+    let p = lower_apart(
+        list,
+        names,
+        edges,
+        dispatches,
+        bads,
+        t,
+        c,
+        e,
+        i,
+        address,
+        flag,
+        fits,
+    );
+    let refusal = p.refusal;
+    if refusal != 0 {
+        return refusal;
+    }
+    words::put_apart(state, i.rd, p);
+    0
+}
+
+// All calls where it is known whether the roles fit at the start.
+fn lower_rest(
+    list: &mut [u64],
+    names: &mut [u8],
+    edges: &mut [u64],
+    dispatches: &mut [u64],
+    bads: &mut [u64],
+    state: &mut [u64],
+    calls: &[u64],
+    fits: bool,
+) -> Stopped
+    requires { ⌜ stateWords ≤ length (now state) ⌝ }
+    ensures { λ r. ⌜ givenAll (r .done) (r .refusal) (lent (now (list .exit)) (now (names .exit)) (now (edges .exit)) (now (dispatches .exit)) (now (bads .exit))) (now (state .exit)) ≡ wordsAll fits (lent (now (list .entry)) (now (names .entry)) (now (edges .entry)) (now (dispatches .entry)) (now (bads .entry))) (now (state .entry)) (now (calls .entry)) ⌝ }
+{
+    let count = calls.len() / CALL;
+    let mut done = 0;
+    while done < count {
+        let refusal = lower_next(
+            list,
+            names,
+            edges,
+            dispatches,
+            bads,
+            state,
+            calls,
+            done,
+            fits,
+        );
+        if refusal != 0 {
+            return Stopped { done, refusal };
+        }
+        done += 1;
+    }
+    Stopped { done, refusal: 0 }
+}
+
+// The call after `done` others.
+fn lower_next(
+    list: &mut [u64],
+    names: &mut [u8],
+    edges: &mut [u64],
+    dispatches: &mut [u64],
+    bads: &mut [u64],
+    state: &mut [u64],
+    calls: &[u64],
+    done: usize,
+    fits: bool,
+) -> u64
+    requires { ⌜ (done * 7 + 7 ≤ length (now calls)) × (stateWords ≤ length (now state)) ⌝ }
+    ensures { λ r. ⌜ given r (lent (now (list .exit)) (now (names .exit)) (now (edges .exit)) (now (dispatches .exit)) (now (bads .exit))) (now (state .exit)) ≡ knownWords fits (lent (now (list .entry)) (now (names .entry)) (now (edges .entry)) (now (dispatches .entry)) (now (bads .entry))) (now (state .entry)) (callIn (drop (done * callWords) (now (calls .entry))) .instruction) (callIn (drop (done * callWords) (now (calls .entry))) .address) (callIn (drop (done * callWords) (now (calls .entry))) .flag) ⌝ }
+{
+    let from = done * CALL;
+    let i = Instruction {
+        kind: calls[from + 1],
+        rd: calls[from + 2],
+        rs1: calls[from + 3],
+        rs2: calls[from + 4],
+        imm: calls[from + 5],
+    };
+    let address = calls[from];
+    let flag = NodeRef(calls[from + 6] as usize);
+    lower_known(
+        list,
+        names,
+        edges,
+        dispatches,
+        bads,
+        state,
+        i,
+        address,
+        flag,
+        fits,
+    )
+}
