@@ -16,7 +16,7 @@ use Rattle.lowering_laws.proofs.OneCall.{when-refused}
 use Rattle.demand.specs.Calls.{Held, Call, lower, inFront, lentFor, stateFor, answerTo, accepted, step, run}
 use Rattle.demand_all.specs.Many.{held, request, requests, ManyAreRun}
 
-front-self : (n : ℕ) (ws : List ℕ) → take (length ws) (take n ws) ++ drop (length (take n ws)) ws ≡ ws
+pub front-self : (n : ℕ) (ws : List ℕ) → take (length ws) (take n ws) ++ drop (length (take n ws)) ws ≡ ws
 front-self zero [] = refl
 front-self zero (w ∷ ws) = refl
 front-self (suc n) [] = refl
@@ -39,6 +39,9 @@ module _ (l : Lent) (st : State) (c : Many.Call) where
   unfolding loweringGiven settled
   taken e = rw (eq-eqb _ 0 e)
 
+  pub refused-lent : (a .lowered .refusal ≡ 0 → ⊥) → a .lent ≡ l
+  refused-lent h = ap (λ (b : Answer). b .lent) (when-refused l st (c .instruction) (c .address) (c .flag) (λ e. h (taken e)))
+
   refused-is : (a .lowered .refusal ≡ 0 → ⊥) → step (held l st) (lower (request l st c)) ≡ held (a .lent) (a .lowered .state)
   unfolding step accepted
   refused-is h = rw (answer-is, ne-eqb (a .lowered .refusal) 0 h) (ap (λ (b : Answer). held (b .lent) (b .lowered .state)) (sym (when-refused l st (c .instruction) (c .address) (c .flag) (λ e. h (taken e)))))
@@ -47,7 +50,7 @@ module _ (l : Lent) (st : State) (c : Many.Call) where
 abbrev then : ℕ → List Many.Call → Answer → Bool → AnswerAll
 then k cs b t = elim t [ true ↦ loweringOn (k + 1) (b .lent) (b .lowered .state) cs | false ↦ answerAll k (b .lowered .refusal) (b .lowered .state) (b .lent) ]
 
--- and the calls behind it
+-- and the calls after it
 abbrev next : List Many.Call → Answer → Bool → List Call
 next cs b t = elim t [ true ↦ requests (b .lent) (b .lowered .state) cs | false ↦ [] ]
 
@@ -55,18 +58,18 @@ next cs b t = elim t [ true ↦ requests (b .lent) (b .lowered .state) cs | fals
 Left : ℕ → List Many.Call → Type 0
 Left k cs = (l : Lent) (st : State) → run (held l st) (requests l st cs) ≡ held (loweringOn k l st cs .lent) (loweringOn k l st cs .state)
 
-behind : (c : Many.Call) (cs : List Many.Call) (k : ℕ) (l : Lent) (st : State) → Left (k + 1) cs → (t : Bool) → eqb (a l st c .lowered .refusal) 0 ≡ t
+after : (c : Many.Call) (cs : List Many.Call) (k : ℕ) (l : Lent) (st : State) → Left (k + 1) cs → (t : Bool) → eqb (a l st c .lowered .refusal) 0 ≡ t
     → run (step (held l st) (lower (request l st c))) (next cs (a l st c) t) ≡ held (then k cs (a l st c) t .lent) (then k cs (a l st c) t .state)
 unfolding Left run
-behind c cs k l st rest true q =
+after c cs k l st rest true q =
     ap (λ (h : Held). run h (requests (a l st c .lent) (a l st c .lowered .state) cs)) (step-is l st c (eqb-true (a l st c .lowered .refusal) 0 q))
     ∙ rest (a l st c .lent) (a l st c .lowered .state)
-behind c cs k l st rest false q = refused-is l st c (eqb-false (a l st c .lowered .refusal) 0 q)
+after c cs k l st rest false q = refused-is l st c (eqb-false (a l st c .lowered .refusal) 0 q)
 
 many : (cs : List Many.Call) (k : ℕ) → Left k cs
 unfolding Left loweringOn requests run
 many [] k l st = refl
-many (c ∷ cs) k l st = behind c cs k l st (many cs (k + 1)) (eqb (a l st c .lowered .refusal) 0) refl
+many (c ∷ cs) k l st = after c cs k l st (many cs (k + 1)) (eqb (a l st c .lowered .refusal) 0) refl
 
 pub many-are-run : ManyAreRun
 unfolding Left

@@ -66,6 +66,16 @@ roles-kept ws h = places-kept roleCount ws h
 
 -- ---- the state
 
+-- of words with six before the roles, a statement about those six and the rest
+pub by-six : (Q : List ℕ → Type 0) (ws : List ℕ) → stateWords ≤ length ws → ((a b c d e f : ℕ) (rest : List ℕ) → roleCount ≤ length rest → Q (a ∷ b ∷ c ∷ d ∷ e ∷ f ∷ rest)) → Q ws
+by-six Q (a ∷ b ∷ c ∷ d ∷ e ∷ f ∷ ws) h q = q a b c d e f ws (omega arith)
+by-six Q (a ∷ b ∷ c ∷ d ∷ e ∷ []) h q = absurd (omega arith)
+by-six Q (a ∷ b ∷ c ∷ d ∷ []) h q = absurd (omega arith)
+by-six Q (a ∷ b ∷ c ∷ []) h q = absurd (omega arith)
+by-six Q (a ∷ b ∷ []) h q = absurd (omega arith)
+by-six Q (a ∷ []) h q = absurd (omega arith)
+by-six Q [] h q = absurd (omega arith)
+
 pub read-back : ReadBack
 unfolding stateIn rolesIn withState stateOut
 read-back ws s h = ap (λ (roles : List NodeRef). record { tally = s .tally; counts = s .counts; roles = roles }) (places-back (s .roles) (drop stateWords ws) roleCount h)
@@ -80,13 +90,7 @@ read-out s h =
 -- words that hold the state that they held are the same
 pub state-kept : (ws : List ℕ) → stateWords ≤ length ws → withState ws (stateIn ws) ≡ ws
 unfolding rolesIn stateIn stateOut withState
-state-kept (a ∷ b ∷ c ∷ d ∷ e ∷ f ∷ ws) h = ap (λ r. a ∷ b ∷ c ∷ d ∷ e ∷ f ∷ r) (roles-kept ws (omega arith))
-state-kept (a ∷ b ∷ c ∷ d ∷ e ∷ []) h = absurd (omega arith)
-state-kept (a ∷ b ∷ c ∷ d ∷ []) h = absurd (omega arith)
-state-kept (a ∷ b ∷ c ∷ []) h = absurd (omega arith)
-state-kept (a ∷ b ∷ []) h = absurd (omega arith)
-state-kept (a ∷ []) h = absurd (omega arith)
-state-kept [] h = absurd (omega arith)
+state-kept ws h = by-six (λ ws. withState ws (stateIn ws) ≡ ws) ws h (λ a b c d e f rest l. ap (λ r. a ∷ b ∷ c ∷ d ∷ e ∷ f ∷ r) (roles-kept rest l))
 
 pub out-length : (s : State) → length (s .roles) ≡ roleCount → length (stateOut s) ≡ stateWords
 unfolding stateOut

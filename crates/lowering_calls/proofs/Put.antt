@@ -16,7 +16,7 @@ use Rattle.roles.specs.Roles.{ref, nodeRole, flowRole, roleCount, withFlows, wi
 use Rattle.lowering_refusals.specs.declared.Counts.{Counts}
 use Rattle.lowering_refusals.specs.declared.State.{State}
 use Rattle.lowering.specs.Words.{firstRole, stateWords, rolesIn, stateOut, withState, place}
-use Rattle.lowering.proofs.Words.{role-at, role-set, roles-kept}
+use Rattle.lowering.proofs.Words.{role-at, role-set, roles-kept, by-six}
 use Rattle.lowering_calls.specs.Apart.{stateOf}
 use Rattle.lowering_calls.specs.Known.{putFlows, putRegister, putOutcome}
 
@@ -96,16 +96,6 @@ counted s = s .tally .lines ∷ s .tally .nid ∷ s .counts .names ∷ s .counts
 -- words that hold other roles
 unfoldable pub withRoles : List ℕ → List NodeRef → List ℕ
 withRoles ws roles = take firstRole ws ++ map place roles ++ drop stateWords ws
-
--- of words with six before the roles, a statement about those six and the rest
-by-six : (Q : List ℕ → Type 0) (ws : List ℕ) → stateWords ≤ length ws → ((a b c d e f : ℕ) (rest : List ℕ) → roleCount ≤ length rest → Q (a ∷ b ∷ c ∷ d ∷ e ∷ f ∷ rest)) → Q ws
-by-six Q (a ∷ b ∷ c ∷ d ∷ e ∷ f ∷ ws) h q = q a b c d e f ws (omega arith)
-by-six Q (a ∷ b ∷ c ∷ d ∷ e ∷ []) h q = absurd (omega arith)
-by-six Q (a ∷ b ∷ c ∷ d ∷ []) h q = absurd (omega arith)
-by-six Q (a ∷ b ∷ c ∷ []) h q = absurd (omega arith)
-by-six Q (a ∷ b ∷ []) h q = absurd (omega arith)
-by-six Q (a ∷ []) h q = absurd (omega arith)
-by-six Q [] h q = absurd (omega arith)
 
 pub state-written : (ws : List ℕ) (s : State) → stateWords ≤ length ws → withRoles (sets ws 0 (counted s)) (s .roles) ≡ withState ws s
 unfolding withRoles stateOut withState

@@ -50,14 +50,7 @@ pub(crate) fn lower_apart(
     ensures { λ r. ⌜ told r (lent (now (list .exit)) (now (names .exit)) (now (edges .exit)) (now (dispatches .exit)) (now (bads .exit))) ≡ callApart fits (lent (now (list .entry)) (now (names .entry)) (now (edges .entry)) (now (dispatches .entry)) (now (bads .entry))) t c e i address flag ⌝ }
 {
     let class = class_of(i.kind);
-    let needs = needs_of(
-        i.kind,
-        class,
-        i.imm == 0,
-        i.rd == 0,
-        i.rs1 == 0,
-        address,
-    );
+    let needs = needs_of(i.kind, class, i.imm == 0, i.rd == 0, i.rs1 == 0, address);
     let room = room_of(
         list.len(),
         names.len(),
