@@ -212,7 +212,7 @@ def listing(**given):
 
 
 def small(*more, nids=(20, 21, 22), **given):
-    """A Bit, a Word and a Memory, and lines behind them."""
+    """A Bit, a Word and a Memory, and lines after them."""
     a, b, c = nids
     return Start([Line("Const", a, BIT), Line("Const", b, WORD), Line("State", c, MEMORY), *more], roles_at(0, 1, 2), **given)
 
@@ -250,7 +250,7 @@ def accepted():
     yield small(names=16, edges=2, dispatches=2, bads=2)
     yield small(edge_words=7, edges=1)
     yield small(dispatch_words=3, dispatches=1)
-    yield small(Line(0, 0), lines=3, next_nid=23)  # behind the count
+    yield small(Line(0, 0), lines=3, next_nid=23)  # past the count
     for place, length in ((0, 16), (16, 0), (15, 1), (1, 15)):
         for area in (1, 2):
             yield one_more("State", WORD, name=(area, place, length))
@@ -470,7 +470,7 @@ def commands():
             if records.get(place, (0,) * 10) != line.given:
                 records[place] = line.given
                 yield (1, place, *line.given), None
-        # What stands behind a start's records is left by those before it: `Start.line` reads 0 there, so no count may reach it.
+        # What stands after a start's records is left by those before it: `Start.line` reads 0 there, so no count may reach it.
         for place in range(len(s.stored), min(s.lines, WORDS // RECORD)):
             if records.get(place, (0,) * 10) != (0,) * 10:
                 records[place] = (0,) * 10
