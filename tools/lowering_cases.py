@@ -27,7 +27,6 @@ from refusal import BRANCHES, KINDS, refusal
 
 REPOSITORY = pathlib.Path(__file__).resolve().parent.parent
 DIFFERENTIAL = REPOSITORY / "differential"
-STORED = REPOSITORY / "crates" / "lowering_cases"
 
 # The printed operators in the order of unicorn's `Node`.
 OPERATORS = "constd read write add sub mul udiv sdiv urem sll srl ult uext ite eq and or not state next input bad".split()
@@ -436,25 +435,22 @@ def commands():
     yield FRESH
 
 
-def texts():
-    """What stdin and stdout are to hold."""
+def main(arguments, crate, commands, usage):
+    """Writes what a crate's stdin or stdout is to hold, or compares both with the stored ones."""
     made = list(commands())
-    return {
+    texts = {
         "stdin": "".join(" ".join(map(str, command)) + "\n" for command, _ in made),
         "stdout": "".join(text + "\n" for _, answer in made for text in answer),
     }
-
-
-def main(arguments):
     if arguments in (["stdin"], ["stdout"]):
-        sys.stdout.write(texts()[arguments[0]])
+        sys.stdout.write(texts[arguments[0]])
         return 0
     if arguments != ["check"]:
-        sys.exit(__doc__)
-    differing = [name for name, text in texts().items() if (STORED / name).read_text() != text]
-    print(*[f"crates/lowering_cases/{name} is not what is made now" for name in differing] or ["no difference"], sep="\n")
+        sys.exit(usage)
+    differing = [name for name, text in texts.items() if (REPOSITORY / "crates" / crate / name).read_text() != text]
+    print(*[f"crates/{crate}/{name} is not what is made now" for name in differing] or ["no difference"], sep="\n")
     return len(differing) != 0
 
 
 if __name__ == "__main__":
-    sys.exit(main(sys.argv[1:]))
+    sys.exit(main(sys.argv[1:], "lowering_cases", commands, __doc__))
