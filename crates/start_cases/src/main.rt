@@ -20,7 +20,7 @@ use roles::ROLES;
 fn main() {
     let mut buffer = [0u8; 262144];
     let n = io::read_full(STDIN_FILENO, &mut buffer);
-    let mut list = [0u64; 240];
+    let mut list = [0u64; 400];
     run(&buffer[..n], &mut list);
 }
 
