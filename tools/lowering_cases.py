@@ -33,7 +33,10 @@ OPERATORS = "constd read write add sub mul udiv sdiv urem sll srl ult uext ite e
 ORIGINS = "regular branch syscall".split()
 SORT_OF_WIDTH = {1: 1, 8: 11, 16: 12, 24: 13, 32: 14, 40: 15, 48: 16, 56: 17}
 
-START, START_NID, FLAG = 39, 59, 38  # the listing's start: its lines, the next identifier, and the place of its flag
+# The listing's start: no State of it has an init, so that places and identifiers keep their distance.
+FIRST = 20  # the identifier at place 0
+START = 59  # the first identifier that is appended
+FLAG = 58 - FIRST
 HOLDS, NAME_BYTES, EDGES, DISPATCHES, BADS = 800, 1024, 3, 2, 32  # what the program lends
 TOP = 2**64 - 1
 NO_CONDITION = TOP
@@ -323,7 +326,7 @@ def refused(command, number):
     return command, [f"refused {number}"]
 
 
-def counts(lines=START, nid=START_NID, names=0, edges=0, dispatches=0, bads=0):
+def counts(lines=START - FIRST, nid=START, names=0, edges=0, dispatches=0, bads=0):
     return (3, lines, nid, names, edges, dispatches, bads), []
 
 
@@ -407,7 +410,7 @@ def role_cases():
     of_sort = {1: 0, 2: 2, 3: 35}
     for role, sort in enumerate(sorts):
         yield FRESH
-        for wrong in (START, of_sort[sort % 3 + 1]):
+        for wrong in (START - FIRST, of_sort[sort % 3 + 1]):
             yield (4, role, wrong), []
             yield refused(lower(LUI), 13)
     yield FRESH
@@ -417,7 +420,7 @@ def role_cases():
     yield refused(lower(LUI), 9)  # and 9 before 13
     yield FRESH
     yield from lowered([BAD])
-    yield (4, 0, START), []
+    yield (4, 0, START - FIRST), []
     yield refused(lower(LUI), 13)  # a bad line is no value line
     yield FRESH
 
