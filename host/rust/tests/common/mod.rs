@@ -24,7 +24,9 @@ pub const WORD: u64 = 2;
 pub const MEMORY: u64 = 3;
 pub const LINES_USED: usize = 0;
 pub const NEXT_NID: usize = 1;
+pub const EDGES_USED: usize = 3;
 
+#[derive(Clone, PartialEq)]
 pub struct Storage {
     pub list: Vec<u64>,
     pub names: Vec<u8>,
@@ -34,25 +36,34 @@ pub struct Storage {
     pub state: [u64; STATE],
 }
 
-// Room for this many lines and edges. The bits and words 0 and 1; the states x1 to x31, memory, counter, counter-max and flag, without names.
+// Room for this many lines and edges.
 pub fn start(lines: usize, edges: usize) -> Storage {
-    let constants = [(CONST, BIT, 0), (CONST, BIT, 1), (CONST, WORD, 0), (CONST, WORD, 1)];
-    let states = [WORD; 31].into_iter().chain([MEMORY, MEMORY, WORD, BIT]).map(|sort| (STATE_LINE, sort, 0));
-    let mut list = vec![0; lines * LINE];
-    for (place, (kind, sort, imm)) in constants.into_iter().chain(states).enumerate() {
-        list[place * LINE..(place + 1) * LINE].copy_from_slice(&[head(FIRST + place as u64, kind, sort, 0, 0), imm, 0, 0]);
-    }
-    let counts = [START as u64, FIRST + START as u64, 0, 0, 0, 0];
-    let nodes = [0, 1, 2, 3, 35, 36, 37, 2].into_iter().chain(4..35);
-    let flows = (4..35).chain([35, 36, 37, 3, 3, 2, 0, 0, 0]);
-    let state: Vec<u64> = counts.into_iter().chain(nodes).chain(flows).collect();
-    Storage {
-        list,
+    let mut s = Storage {
+        list: vec![0; lines * LINE],
         names: vec![0; 33],
         edges: vec![0; edges * EDGE],
         dispatches: vec![0; 2 * DISPATCH],
         bads: vec![0; 2],
-        state: state.try_into().unwrap(),
+        state: [0; STATE],
+    };
+    s.restart();
+    s
+}
+
+impl Storage {
+    // The bits and words 0 and 1; the states x1 to x31, memory, counter, counter-max and flag, without names.
+    pub fn restart(&mut self) {
+        let constants = [(CONST, BIT, 0), (CONST, BIT, 1), (CONST, WORD, 0), (CONST, WORD, 1)];
+        let states = [WORD; 31].into_iter().chain([MEMORY, MEMORY, WORD, BIT]).map(|sort| (STATE_LINE, sort, 0));
+        for (place, (kind, sort, imm)) in constants.into_iter().chain(states).enumerate() {
+            let line = [head(FIRST + place as u64, kind, sort, 0, 0), imm, 0, 0];
+            self.list[place * LINE..(place + 1) * LINE].copy_from_slice(&line);
+        }
+        let counts = [START as u64, FIRST + START as u64, 0, 0, 0, 0];
+        let nodes = [0, 1, 2, 3, 35, 36, 37, 2].into_iter().chain(4..35);
+        let flows = (4..35).chain([35, 36, 37, 3, 3, 2, 0, 0, 0]);
+        let words: Vec<u64> = counts.into_iter().chain(nodes).chain(flows).collect();
+        self.state.copy_from_slice(&words);
     }
 }
 
