@@ -2,7 +2,7 @@
 // functions; it calls memcpy and nothing else. What each gives is proved equal to a definition of crates/host/specs/Host.antt.
 //
 // All storage is the host's: a function takes a pointer and a length in elements, keeps neither, and allocates nothing. What is in use stands
-// first; the elements after it are spare room, and an accepted call writes there only.
+// first; the elements after it are spare room, and an accepted call writes there and to STATE only.
 //
 // WHAT A CALLER MUST SEE TO, for no function can: everything else is checked and refused by number.
 //   A pointer is not NULL, even where its length is 0, and is aligned for its type.
@@ -35,7 +35,8 @@
 // REFUSALS: a function gives 0, or the number of the first refusal that applies, and then changes nothing:
 //   1 kind not among the 50   2 a register field that the kind uses is above 31, or imm is outside its format   3 shift amount
 //   4 Srliw by 0   5 rd is x0   6 Jalr with an offset under a register   7 no flag of sort bit where one is needed
-//   8 no room for what the instruction appends   9 a count or an identifier too large, a run outside the list, fewer than 85 words of state
+//   8 no room for what the instruction appends, or more than 1,048,576 lines   9 a count or an identifier too large, a run outside the
+//   list, fewer than 85 words of state
 //   10 identifiers at the start   11 a line that is not well formed   12 the sort rule   13 a role   14 the output is too short
 #ifndef LANTHANUMBAT_H
 #define LANTHANUMBAT_H
