@@ -51,11 +51,6 @@ class Line:
         area, *part = name
         self.words = (min(nid, 2**32 - 1), min(number, 255), min(sort, 255), *ops, min(imm, 1) if number == KIND["State"] else imm, min(area, 255), *part)
 
-    def at(self, nid):
-        """The same with another identifier."""
-        _, kind, sort, op1, op2, op3, imm, *name = self.given
-        return Line(kind, nid, sort, (op1, op2, op3), imm, name)
-
     @property
     def nid(self):
         return self.words[0]
@@ -97,6 +92,11 @@ class Line:
         if self.name == "Write":
             return MEMORY
         return WORD if self.name in ("Read", "Ext", *ARITHMETIC) else self.sort
+
+    def at(self, nid):
+        """The same with another identifier."""
+        _, kind, sort, op1, op2, op3, imm, *name = self.given
+        return Line(kind, nid, sort, (op1, op2, op3), imm, name)
 
 
 class Start:
