@@ -1,5 +1,5 @@
 -- `lower_with` meets its contract: a walk of its MIR, by hand, with one call. The first records of the local array are lent for the call (Front.antt), and the slices
--- of numbers go to `lowering_entry::lower` for good. All that the proof knows of it is that it meets its contract. Assumes nothing.
+-- of numbers go to `lowering_entry::lower` for good. All that the proof knows of it is that it meets its contract, whatever that ensures. Assumes nothing.
 use mathlib.Core.Path.{_≡_, refl, sym, _∙_, ap, subst}
 use Prim.Native.Nat.{ℕ, _<_, _≤_, _^_}
 use native.Mathlib.Omega.{arith}
@@ -16,7 +16,7 @@ use prog.Memory.{Memory}
 use prog.Routine.{Routine}
 use prog.Wp.{Heap, Calls, Loops, WpFn, Tables}
 use ghost.Atoms.{Atoms}
-use contract.Monad.{Fun, fact}
+use contract.Monad.{Fun}
 use contract.Running.{givenOf, tables, tablesOf}
 use types.Kit.{Given, Item, ‵, raw, some, later, _⊛_, ⋆, _$_, _∵_, !, qed, by, move, keep, group, drop, use1, use2, use3, split, join, pick, rewrite, fsplit, fjoin, feqL, suffices, frame, await, done}
 use types.Run.{look, init, forget, stop, hop, fld, from, load, addr, of-opd, and-then, no-more, assigns, land, returns, enter, alloc1, alloc0, params1, pass1, pass0, free1, free0}
@@ -32,13 +32,13 @@ use denote.Array.{each, arrayVal, Array, array-vals, array-tells, array-lawful, 
 use denote.Memory.{lone}
 use denote.Ref.{RefT}
 use denote.Slice.{sliceVal, MutSlice, Room, finally, slice-vals, mut-slice-tells}
-use denote.Steps.{only, owned, peeks, heard, nothing}
+use denote.Steps.{only, owned, peeks, nothing}
 use denote.Struct.Laws as LL
 use denote.Triple.Entry.{onEntry}
 use denote.Triple.Spec.{Meets, tripleOf}
 use denote.Triple.Statement.{Contract, Triple}
 use denote.Triple.Call.{calls-at}
-use denote.Triple.Clauses.{ensured, lasts}
+use denote.Triple.Clauses.{Lasts, atExit, ensured, lasts}
 use denote.Triple.Table.{entered, cited}
 use denote.Triple.Walked.{needs, Stays, gave-slice, stay-none, walkOf, goes-gave-slice, goes-none, Walks, onExit, ends-at, walked, walk-meets}
 use denote.Exit.{yes}
@@ -53,10 +53,8 @@ use Rattle.lowering_refusals.specs.declared.State.{State}
 use Rattle.lowering_refusals.proofs.State as St
 use Rattle.lowering_refusals.proofs.State.Laws as St′
 use Rattle.lowering.specs.declared.Lowered.{Lowered}
-use Rattle.lowering.specs.Lowering as L
 use Rattle.lowering.proofs.Lowered as Lw
 use Rattle.lowering.proofs.Lowered.Laws as Lw′
-use Rattle.lowering_entry.specs.InEdges.{edgeWords}
 use Rattle.lowering_entry.specs.declared.InEdge.{InEdge}
 use Rattle.lowering_entry.proofs.InEdge as T
 use Rattle.lowering_entry.proofs.InEdge.Laws as T′
@@ -226,9 +224,9 @@ module _ {M : Type 1} (𝓤 : URA M) (H : Heap 𝓤) (A : Atoms 𝓤) (W : Given
         nothing ! $ owned ! Nd-row (Is Nd-row) (LL.makes Nd.the-type Nd′.the-plain 𝓤 H A) flag _ flag-is $ fjoin ! $ owned ! u64 (Is u64) (uint-makes 𝓤 H A W w64) pc _ (refl, pc-fits) $ fjoin ! $ owned ! In-row (Is In-row) (LL.makes In.the-type In′.the-plain 𝓤 H A) i _ i-is $ fjoin ! $ owned ! St-row (Is St-row) (LL.makes St.the-type St′.the-plain 𝓤 H A) st _ st-is $ fjoin ! $
         move ! (6 ∷ 0 ∷ []) $ fjoin ! $ move ! (5 ∷ 0 ∷ []) $ fjoin ! $ move ! (4 ∷ 0 ∷ []) $ fjoin ! $ move ! (3 ∷ 0 ∷ []) $ fjoin ! $ move ! (2 ∷ 0 ∷ []) $ fjoin ! $ move ! (1 ∷ 0 ∷ []) $ join ! $ frame ! $ done !
 
-    -- what it ensures, at the last lists
-    abbrev Told : Lowered → List ℕ → List ℕ → List InEdge → List ℕ → List ℕ → Type 0
-    Told r vs₀ vs₁ fs vs₂ vs₃ = L.answer r (L.lent vs₀ vs₁ (edgeWords fs) vs₂ vs₃) ≡ L.lowering (L.lent ws ns (edgeWords (take n es)) ds bs) st i pc flag
+    -- what it ensures, at the last lists: nothing here goes by what that is
+    abbrev Ensures : Lowered → Lasts core.ended core-lfts core-args → SProp 𝓤
+    Ensures r zs = core.clauses 𝓤 H A mem run core-lfts core-args .ensures tt r (atExit core.ended core-lfts core-args zs)
 
   -- the records after the call, and what is returned
   abbrev rec : Lowered → List InEdge → Recorded
@@ -295,8 +293,8 @@ module _ {M : Type 1} (𝓤 : URA M) (H : Heap 𝓤) (A : Atoms 𝓤) (W : Given
         move ! (7 ∷ 6 ∷ 2 ∷ 5 ∷ 3 ∷ 11 ∷ 10 ∷ 0 ∷ 9 ∷ 8 ∷ []) $ group ! 10 $ use1 W (raw (CoreC 𝓤 H A mem run .pre (to-core l₁₁ ν δ))) (goes-core l₁₁ ν δ) $
         calls-at ! fm (CoreC 𝓤 H A mem run) known (to-core l₁₁ ν δ) (and-then ! (load ! (from ! (stop !)) (look ! 21 refl)) (and-then ! (load ! (from ! (stop !)) (look ! 17 refl)) (and-then ! (load ! (from ! (stop !)) (look ! 13 refl)) (and-then ! (load ! (from ! (stop !)) (look ! 9 refl)) (and-then ! (load ! (from ! (stop !)) (look ! 5 refl)) (and-then ! (load ! (from ! (stop !)) (look ! 34 refl)) (and-then ! (load ! (from ! (stop !)) (look ! 32 refl)) (and-then ! (load ! (from ! (stop !)) (look ! 30 refl)) (and-then ! (load ! (from ! (stop !)) (look ! 28 refl)) (no-more !)))))))))) (λ w.
         use1 W (later (some (λ (r : Lowered). ((‵ (flft κ₀ q₀) ⊛ ‵ (flft κ₁ q₁) ⊛ ‵ (flft (ν ∷ []) fullShare) ⊛ ‵ (flft κ₂ q₂) ⊛ ‵ (flft κ₃ q₃) ⊛ ‵ ftrue) ⊛ ‵ (Lw-row .own r (w ∷ []))) ⊛ raw (ensured 𝓤 H A core.ended (core.clauses 𝓤 H A mem run) (core-lfts l₁₁ ν δ) (core-args l₁₁ ν δ) tt r)))) (id⊢ 𝓤 _) $ await ! tt $ pick ! (λ r.
-        split ! $ move ! (1 ∷ []) $ use1 W (some (λ (zs : List ℕ × (List ℕ × (List InEdge × (List ℕ × (List ℕ × (Unit {0} × (Unit {0} × (Unit {0} × (Unit {0} × Unit {0}))))))))). ‵ (lasts core.ended (core-lfts l₁₁ ν δ) (core-args l₁₁ ν δ) zs) ⊛ raw (fact 𝓤 (Told l₁₁ ν δ r (zs .0) (zs .1 .0) (zs .1 .1 .0) (zs .1 .1 .1 .0) (zs .1 .1 .1 .1 .0))))) (id⊢ 𝓤 _) $ pick ! (λ zs.
-        split ! $ move ! (1 ∷ []) $ heard ! (Told l₁₁ ν δ r (zs .0) (zs .1 .0) (zs .1 .1 .0) (zs .1 .1 .1 .0) (zs .1 .1 .1 .1 .0)) (λ e. fsplit ! $ fsplit ! $ move ! (1 ∷ []) $ feqL ! (λ same₀. move ! (1 ∷ []) $ fsplit ! $ fsplit ! $ move ! (1 ∷ []) $ feqL ! (λ same₁. move ! (1 ∷ []) $ fsplit ! $ fsplit ! $ move ! (1 ∷ []) $ feqL ! (λ same. move ! (1 ∷ []) $ fsplit ! $ fsplit ! $ move ! (1 ∷ []) $ feqL ! (λ same₂. move ! (1 ∷ []) $ fsplit ! $ fsplit ! $ move ! (1 ∷ []) $ feqL ! (λ same₃. move ! (1 ∷ []) $ drop ! $
+        split ! $ move ! (1 ∷ []) $ use1 W (some (λ (zs : List ℕ × (List ℕ × (List InEdge × (List ℕ × (List ℕ × (Unit {0} × (Unit {0} × (Unit {0} × (Unit {0} × Unit {0}))))))))). ‵ (lasts core.ended (core-lfts l₁₁ ν δ) (core-args l₁₁ ν δ) zs) ⊛ raw (Ensures l₁₁ ν δ r zs))) (id⊢ 𝓤 _) $ pick ! (λ zs.
+        split ! $ move ! (1 ∷ []) $ drop ! $ fsplit ! $ fsplit ! $ move ! (1 ∷ []) $ feqL ! (λ same₀. move ! (1 ∷ []) $ fsplit ! $ fsplit ! $ move ! (1 ∷ []) $ feqL ! (λ same₁. move ! (1 ∷ []) $ fsplit ! $ fsplit ! $ move ! (1 ∷ []) $ feqL ! (λ same. move ! (1 ∷ []) $ fsplit ! $ fsplit ! $ move ! (1 ∷ []) $ feqL ! (λ same₂. move ! (1 ∷ []) $ fsplit ! $ fsplit ! $ move ! (1 ∷ []) $ feqL ! (λ same₃. move ! (1 ∷ []) $ drop ! $
         -- [the last lists of bads, dispatches, records, names and list; the tokens and what is given; what is kept of the records; _; …]
         move ! (5 ∷ []) $ split ! $ move ! (1 ∷ []) $ peeks ! Lw-row (Is Lw-row) (shows 𝓤 H A Lw-row) r (w ∷ []) (λ is₀.
         let told : w ∷ [] ≡ lw-val r ∷ [] = LL.tells Lw.the-type Lw′.the-laws r _ is₀ in let is : Is Lw-row r (lw-vals r) = subst (Is Lw-row r) told is₀ in
@@ -315,7 +313,7 @@ module _ {M : Type 1} (𝓤 : URA M) (H : Heap 𝓤) (A : Atoms 𝓤) (W : Given
         returns ! (look ! 55 refl) $
         forget ! 0 refl $ forget ! 10 refl $ forget ! 12 refl $ forget ! 14 refl $ forget ! 16 refl $ forget ! 18 refl $ forget ! 20 refl $ forget ! 22 refl $ forget ! 24 refl $ forget ! 26 refl $ forget ! 28 refl $ forget ! 30 refl $ forget ! 32 refl $ forget ! 35 refl $ forget ! 37 refl $ forget ! 39 refl $ forget ! 41 refl $ forget ! 43 refl $ forget ! 45 refl $ forget ! 47 refl $ forget ! 49 refl $ forget ! 51 refl $ forget ! 53 refl $ forget ! 55 refl $
         move ! (55 ∷ 56 ∷ []) $ free1 ! $ move ! (53 ∷ 54 ∷ []) $ free1 ! $ move ! (51 ∷ 52 ∷ []) $ free1 ! $ move ! (49 ∷ 50 ∷ []) $ free1 ! $ move ! (47 ∷ 48 ∷ []) $ free1 ! $ move ! (45 ∷ 46 ∷ []) $ free1 ! $ move ! (43 ∷ 44 ∷ []) $ free1 ! $ move ! (41 ∷ 42 ∷ []) $ free1 ! $ move ! (39 ∷ 40 ∷ []) $ free1 ! $ move ! (37 ∷ 38 ∷ []) $ free1 ! $ move ! (35 ∷ 36 ∷ []) $ free1 ! $ move ! (0 ∷ 34 ∷ []) $ free1 ! $ move ! (31 ∷ 32 ∷ []) $ free1 ! $ move ! (29 ∷ 30 ∷ []) $ free1 ! $ move ! (27 ∷ 28 ∷ []) $ free1 ! $ move ! (25 ∷ 26 ∷ []) $ free1 ! $ move ! (23 ∷ 24 ∷ []) $ free1 ! $ move ! (21 ∷ 22 ∷ []) $ free1 ! $ move ! (19 ∷ 20 ∷ []) $ free1 ! $ move ! (17 ∷ 18 ∷ []) $ free1 ! $ move ! (15 ∷ 16 ∷ []) $ free1 ! $ move ! (13 ∷ 14 ∷ []) $ free1 ! $ move ! (11 ∷ 12 ∷ []) $ free1 ! $ move ! (9 ∷ 10 ∷ []) $ free1 ! $ free0 ! $
-        split ! $ move ! (1 ∷ []) $ split ! $ keep ! (4 ∷ 3 ∷ 2 ∷ 0 ∷ 9 ∷ 8 ∷ 7 ∷ 6 ∷ []) $ by ! (exits r (after (zs .1 .1 .0)) (zs .0) (zs .1 .0) (zs .1 .1 .1 .0) (zs .1 .1 .1 .1 .0) same₀ same₁ same₂ same₃ given)))))))))))))))))))))))))))))))))))))))
+        split ! $ move ! (1 ∷ []) $ split ! $ keep ! (4 ∷ 3 ∷ 2 ∷ 0 ∷ 9 ∷ 8 ∷ 7 ∷ 6 ∷ []) $ by ! (exits r (after (zs .1 .1 .0)) (zs .0) (zs .1 .0) (zs .1 .1 .1 .0) (zs .1 .1 .1 .1 .0) same₀ same₁ same₂ same₃ given))))))))))))))))))))))))))))))))))))))
 
 module _ {M : Type 1} (𝓤 : URA M) (H : Heap 𝓤) (A : Atoms 𝓤) (W : Given 𝓤 H A) (mem : Memory → SProp 𝓤) (run : Routine → Fun 𝓤) where
   lower-with-walks : (C : Calls 𝓤 H) (Λ : Loops 𝓤 H) → FmC 𝓤 H (W .laws) C → Triple 𝓤 (C #core) (CoreC 𝓤 H A mem run) → Walks 𝓤 H A f.ended stayed (WpFn 𝓤 H C Λ code.function) (f.clauses 𝓤 H A mem run)
