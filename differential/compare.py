@@ -1,5 +1,5 @@
 #!/usr/bin/env python3
-"""compare.py [--listing PROGRAM] [--source FOLDER] [--seeds A B] [--lines N]: the listing program against the unchanged Rust.
+"""compare.py [--listing PROGRAM] [--cases PROGRAM] [--source FOLDER] [--seeds A B] [--lines N]: the lowering against the unchanged Rust.
 
 Builds the oracle (README.md) from FOLDER (default as build.sh's: ../shared/docs/src beside the repository), gives generated inputs to
 PROGRAM (default: target/bin/listing of the repository) and compares all that it writes, byte by byte, with
@@ -12,8 +12,15 @@ PROGRAM (default: target/bin/listing of the repository) and compares all that it
 
 The inputs: generate.py's sweep (every kind, each field at each boundary, malformed lines of every sort), the list filled so that each kind
 has just enough room and one line too few, odd ends and sizes of input, and for each seed from A to B (1 to 40) N (60) mixed lines and a
-list that fills up. Prints counts for each kind and refusal, then 'no difference' or the differences, whose inputs it keeps in
-target/differences here. Exit status: 0 no difference, 1 differences, 2 it could not be run.
+list that fills up.
+
+The listing has one start, on which x0's node is the zero word and flows are nodes. So the lowering is compared from the oracle's start apart
+too, where no two roles are one line: --cases (default: target/bin/lowering_cases of the repository) is handed that start and, for each seed,
+N mixed lines. What it writes, the numbers of records, edges, dispatches, bads, counts and all flows after each call, must be what
+tools/lowering_cases.py makes of the Rust's text.
+
+Prints counts for each kind and refusal, then 'no difference' or the differences, whose inputs it keeps in target/differences here. Exit
+status: 0 no difference, 1 differences, 2 it could not be run.
 """
 import argparse
 import collections
@@ -27,9 +34,11 @@ HERE = pathlib.Path(__file__).resolve().parent
 sys.path[:0] = [str(HERE), str(HERE.parent / "tools")]
 
 import generate
+import lowering_cases
 import refusal
 
 SHOWN = 10  # differences
+KEPT = HERE / "target" / "differences"
 
 
 #
@@ -114,7 +123,7 @@ PROBE_LINES = refusal.HOLDS - refusal.START - refusal.left_after(PROBES)
 
 
 def in_parts(lines):
-    """The lines in as many inputs as it takes that no list fills up, each with the probes behind them."""
+    """The lines in as many inputs as it takes that no list fills up, each with the probes after them."""
     part, listing = [], refusal.Listing()
     for line in lines:
         listing.take(line)
@@ -188,6 +197,25 @@ def inputs(first, last, count):
         yield f"seed {seed}, filling", filling(rng, count), False
 
 
+def apart_inputs(first, last, count):
+    """What the start apart is tried on: every kind and each field at each boundary, then mixed lines for each seed."""
+    swept = [line for line in map(as_fields, generate.sweep()) if line]
+    for n in range(0, len(swept), IN_AN_INPUT):
+        yield f"apart, sweep {n // IN_AN_INPUT + 1}", swept[n : n + IN_AN_INPUT]
+    for seed in range(first, last + 1):
+        rng = random.Random(seed)
+        yield f"apart, seed {seed}", [lowering_cases.fields(generate.line(rng, False)) for _ in range(count)]
+
+
+IN_AN_INPUT = 400  # lines: the program of cases takes 65,536 bytes
+
+
+def as_fields(line):
+    """A line of the listing's grammar as fields, None for others and for negative amounts, which the Rust lowers."""
+    record = refusal.fields(line)
+    return record if record and not (refusal.refusal(*record[1:]) == 3 and lowered_by_the_rust(record)) else None
+
+
 #
 # The comparison
 #
@@ -226,12 +254,27 @@ def difference(lines, blocks, done):
     return f"exit status {done.returncode}" if done.returncode else None
 
 
-def compare(program, oracle, name, lines, newline, counts, run, kept=HERE / "target" / "differences"):
+def compare(program, oracle, name, lines, newline, counts, run, kept=KEPT):
     """What differs for this input, which then is kept, or None."""
     text = joined(lines, newline)
+    return kept_where_found(name, text, kept, lambda: difference(lines, list(expected(lines, oracle, counts)), run(program, text)))
+
+
+def compare_apart(program, name, instructions, counts, kept=KEPT):
+    """The same from the start apart, by the program of cases."""
+    made = list(lowering_cases.from_apart(instructions))
+    commands, blocks = [" ".join(map(str, command)).encode() for command, _ in made], [answer for _, answer in made]
+    text = joined(commands, True)
+    for line, answer in zip(instructions, [answer for command, answer in made if command[0] == lowering_cases.LOWER]):
+        refused = answer[0].startswith("refused ")
+        counts["apart", "refused" if refused else line[1]] += 1
+        counts["apart lines"] += sum(word[0].isdigit() for word in answer)
+    return kept_where_found(name, text, kept, lambda: difference(commands, blocks, whole(program, text)))
+
+
+def kept_where_found(name, text, kept, find):
     try:
-        blocks = list(expected(lines, oracle, counts))
-        found = difference(lines, blocks, run(program, text))
+        found = find()
     except Disagree as reason:
         found = str(reason)
     except subprocess.TimeoutExpired:
@@ -250,7 +293,11 @@ def summary(counts, inputs_run):
     print(f"{inputs_run} inputs: {counts['node lines']} node lines, {counts['edges']} edges, {counts['dispatches']} dispatches")
     print("accepted:", ", ".join(f"{kind} {counts['accepted', kind]}" for kind in refusal.KINDS))
     print("refused:", ", ".join(f"with {number} {counts['refused', number]}" for number in (0, 1, 2, 3, 4, 5, 6, 8)))
+    kinds = sorted(counts["apart", kind] for kind in refusal.KINDS)
+    print(f"from the start apart: {sum(kinds)} lowered, each kind {kinds[0]} to {kinds[-1]} times, {counts['apart', 'refused']} refused, "
+          f"{counts['apart lines']} node lines")
     missing = [kind for kind in refusal.KINDS if not counts["accepted", kind]]
+    missing += [f"{kind} from the start apart" for kind in refusal.KINDS if not counts["apart", kind]]
     missing += [number for number in (0, 1, 2, 3, 4, 5, 6, 8) if not counts["refused", number]]
     return [f"not reached by any input: {missing}"] if missing else []
 
@@ -258,6 +305,7 @@ def summary(counts, inputs_run):
 def arguments():
     parser = argparse.ArgumentParser(description="The listing program against the unchanged Rust.")
     parser.add_argument("--listing", default=HERE.parent / "target" / "bin" / "listing", type=pathlib.Path)
+    parser.add_argument("--cases", default=HERE.parent / "target" / "bin" / "lowering_cases", type=pathlib.Path)
     parser.add_argument("--source", type=pathlib.Path)
     parser.add_argument("--seeds", nargs=2, default=(1, 40), type=int, metavar=("A", "B"))
     parser.add_argument("--lines", default=60, type=int)
@@ -268,10 +316,11 @@ def main():
     chosen = arguments()
     if subprocess.run([HERE / "build.sh"] + ([chosen.source] if chosen.source else [])).returncode:
         return 2
-    listing = chosen.listing.resolve()
-    if not listing.is_file():
-        print(f"compare.py: {listing} is missing", file=sys.stderr)
-        return 2
+    listing, cases = chosen.listing.resolve(), chosen.cases.resolve()
+    for program in listing, cases:
+        if not program.is_file():
+            print(f"compare.py: {program} is missing", file=sys.stderr)
+            return 2
     oracle = Oracle(HERE / "target" / "oracle")
     counts, differences, run = collections.Counter(), [], 0
     for name, lines, newline in inputs(*chosen.seeds, chosen.lines):
@@ -280,6 +329,8 @@ def main():
     rng = random.Random("pieces")
     pieces = [generate.any_line(rng) for _ in range(100)]
     differences.append(compare(listing, oracle, "in small pieces", pieces, False, counts, in_pieces))
+    for name, instructions in apart_inputs(*chosen.seeds, chosen.lines):
+        differences.append(compare_apart(cases, name, instructions, counts))
     differences = [found for found in differences if found] + summary(counts, run + 1)
     if not differences:
         print("no difference")

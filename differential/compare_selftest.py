@@ -1,7 +1,8 @@
 #!/usr/bin/env python3
-"""compare_selftest.py: compare.py must find each of these wrong listings, and nothing in the right one. Needs target/oracle (build.sh).
+"""compare_selftest.py: compare.py must find each of these wrong listings, and nothing in the right one; the same for the program of cases on
+the start apart. Needs target/oracle (build.sh).
 
-A wrong listing writes what a right one would for one input, with one alteration. The last line says how many tests passed.
+A wrong program writes what a right one would for one input, with one alteration. The last line says how many tests passed.
 """
 import collections
 import os
@@ -14,6 +15,7 @@ import tempfile
 
 import compare
 import generate
+import lowering_cases
 import refusal
 
 LINES = [
@@ -54,15 +56,35 @@ ALTERED = [
     ("carriage returns", r"\n", r"\r\n"),
     ("two spaces", r"constd 2 ", r"constd 2  "),
     ("no last newline", r"\n\Z", r""),
-    ("an empty line behind", r"\Z", r"\n"),
+    ("an empty line after it", r"\Z", r"\n"),
     ("nothing", r"(?s).*", r""),
 ]  # fmt: skip
 
 
-def program(folder, text, status=0):
-    path = folder / "listing"
-    (folder / "out").write_text(text, newline="")
-    path.write_text(f"#!/bin/sh\ncat >/dev/null\ncat {folder}/out\nexit {status}\n")
+# From the start apart: the role that stands where another should, by their places, and what else the numbers show.
+APART_LINES = [(0, "Sd", 0, 0, 1, 0), (4, "Ld", 1, 0, 0, 8), (8, "Mul", 1, 2, 0, 0), (12, "Jalr", 0, 0, 0, 8), (16, "Jalr", 0, 5, 0, 0), (20, "Beq", 0, 0, 1, 8)]
+
+
+def apart_alterations(right):
+    roles = lowering_cases.apart().roles
+    zero, x0 = roles[2], roles[7]
+    yield "zero for x0", re.sub(rf"( 14 2 2) {x0} ", rf"\1 {zero} ", right, count=1)
+    yield "x0 for zero", re.sub(rf" {zero} (\d+ 0 \d+) {zero}\n", rf" {x0} \1 {x0}\n", right, count=1)
+    yield "x0 for zero, one field", re.sub(rf" {zero}\n", rf" {x0}\n", right, count=1)
+    yield "a flow", re.sub(r"(flows \d+) ", r"\1 1", right, count=1)
+    yield "a count", re.sub(r"counts (\d+)", r"counts 1\1", right, count=1)
+    yield "an identifier", re.sub(r"\A\d+", "1", right)
+    yield "a dispatch", right.replace("dyn 5 16", "dyn 5 17")
+    yield "a bad", re.sub(r"bad (\d+)", r"bad 1\1", right, count=1)
+    yield "a bad's name", right.replace("unimplemented-pc-c", "unimplemented-pc-d")
+    yield "an edge's condition", re.sub(r"(edge 28 20 1) ", r"\1 1", right, count=1)
+    yield "nothing", ""
+
+
+def program(folder, text, status=0, name="listing"):
+    path, out = folder / name, folder / f"{name}.out"
+    out.write_text(text, newline="")
+    path.write_text(f"#!/bin/sh\ncat >/dev/null\ncat {out}\nexit {status}\n")
     path.chmod(0o755)
     return path
 
@@ -76,6 +98,11 @@ def main():
         altered = re.sub(pattern, replacement, right, count=1)
         assert altered != right, name
         cases.append((name, altered, 0, True))
+    right_apart = "".join(text + "\n" for _, answer in lowering_cases.from_apart(APART_LINES) for text in answer)
+    apart = [("right", right_apart, False)]
+    for name, altered in apart_alterations(right_apart):
+        assert altered != right_apart, name
+        apart.append((name, altered, True))
     of_grammar = [line for text in ("65536 Addi 5 6 7 2", "0 Xor 0 0 0 -1") for line in generate.malformed_bytes(text) if refusal.fields(line)]
     results = [("malformed lines are", not of_grammar, of_grammar)]
     with tempfile.TemporaryDirectory() as folder:
@@ -85,6 +112,9 @@ def main():
                 program(folder, text, status), oracle, "selftest", LINES, True, collections.Counter(), compare.whole, kept=folder
             )
             results.append((name, bool(found) == wrong, found))
+        for name, text, wrong in apart:
+            found = compare.compare_apart(program(folder, text), "selftest apart", APART_LINES, collections.Counter(), kept=folder)
+            results.append((f"apart, {name}", bool(found) == wrong, found))
         # The command itself: its exit status with a wrong listing, without one, and without rustc (a path on which build.sh finds no more).
         (folder / "path").mkdir()
         (folder / "path" / "dirname").symlink_to(shutil.which("dirname"))
@@ -93,7 +123,7 @@ def main():
             ("command, no listing", os.environ["PATH"], folder / "missing", 2),
             ("command, no rustc", str(folder / "path"), program(folder, right), 2),
         ):
-            run = [sys.executable, compare.HERE / "compare.py", "--listing", listing, "--seeds", "1", "1"]
+            run = [sys.executable, compare.HERE / "compare.py", "--listing", listing, "--cases", program(folder, "", name="cases"), "--seeds", "1", "1"]
             done = subprocess.run(run, env={**os.environ, "PATH": path}, capture_output=True, text=True)
             results.append((name, done.returncode == status, done.stdout + done.stderr))
     for name, good, found in results:

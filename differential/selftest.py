@@ -77,6 +77,27 @@ test("Sd", run(["0 Sd 0 2 3 0"])[:5], [
 test("flows of the start", run([], "--flows"), ["; flows " + " ".join(
     [str(n) for n in range(24, 58)] + "23 23 22 20 20 20".split())])
 
+# The starts as they are shown, and the one in which nothing coincides.
+*shown, roles, flag = run([], "--start")
+test("the listing's start", (len(shown), shown[0], shown[-1], flag), (39, "20 constd 1 0", "58 state 1 flag", "; flag 58"))
+test("its roles", roles, "; roles " + " ".join(map(str, [20, 21, 22, 23, 55, 56, 57, 22, *range(24, 55), *range(24, 58), 23, 23, 22, 20, 20, 20])))
+*shown, roles, flag = run([], "--apart", "--start")
+nids = [int(nid) for nid in roles.split()[2:]]
+sorts = {int(line.split()[0]): line.split()[2] for line in shown if line.split()[1] in ("state", "constd")}
+test("79 roles, no two one line", (len(nids), len(set(nids))), (79, 79))
+test("their sorts", [sorts[nid] for nid in nids], list("1122332") + ["2"] * 63 + list("332222111"))
+test("identifiers of the start apart", [int(line.split()[0]) for line in shown], list(range(20, 20 + len(shown))))
+test("states with an init", (shown[2], sum(line.split()[1] == "init" for line in shown)), ("22 init 2 21 20", 24))
+test("flows of the start apart", run([], "--apart", "--flows"), ["; flows " + " ".join(map(str, nids[39:]))])
+zero, one, memory, counter, maximum, x0, x1, x2 = nids[2:9] + nids[9:10]
+new = len(shown) + 20
+test("Sd from x0 on it", run(["0 Sd 0 0 1 0"], "--apart")[:5], [
+    f"{new} ite 2 {flag[7:]} {x0} {nids[75]}", f"{new + 1} write 3 {counter} {x0} {zero}", f"{new + 2} ite 3 {flag[7:]} {new + 1} {nids[71]}",
+    f"{new + 3} write 3 {memory} {x0} {x1}", f"{new + 4} ite 3 {flag[7:]} {new + 3} {nids[70]}"])
+test("flows after each line", run(["0 Lui 1 0 0 1", "", "0 Lui 1 0 0 1"], "--apart", "--each")[3::2], [
+    "; flows " + " ".join(map(str, [new + 1, *nids[40:]])), "; flows " + " ".join(map(str, [new + 1, *nids[40:]])),
+    f"{new + 3} ite 2 {flag[7:]} {new + 2} {new + 1}", "; flows " + " ".join(map(str, [new + 3, *nids[40:]]))])
+
 # Bench cases.
 test("Slli 63", len(run(["0 Slli 1 1 0 63"])), 4)
 test("Slli 64", run(["0 Slli 1 1 0 64"]), ["; panic"])

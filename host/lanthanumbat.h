@@ -1,11 +1,16 @@
 // Lowering RV64 instructions to BTOR2 lines, for a host in C. `rt staticlib host` writes target/staticlib/libhost.a, which defines these
 // functions; it calls memcpy and nothing else. What each gives is proved equal to a definition of crates/host/specs/Host.antt.
 //
-// All storage is the host's: a function takes a pointer and a length in elements, keeps neither, and allocates nothing. No two areas of one
-// call may overlap. A pointer whose length is 0 is not read, but must not be NULL. Words behind those in use are spare room; an accepted call writes there only.
+// All storage is the host's: a function takes a pointer and a length in elements, keeps neither, and allocates nothing. What is in use stands
+// first; the elements after it are spare room, and an accepted call writes there and to STATE only.
+//
+// WHAT A CALLER MUST SEE TO, for no function can: everything else is checked and refused by number.
+//   A pointer is not NULL, even where its length is 0, and is aligned for its type.
+//   It points to at least as many elements as the length says, all of them initialized, spare room too; they take less than 2^63 bytes.
+//   No area that a call writes overlaps another of the same call, and no other thread writes to or reads from it meanwhile.
 //
 // LIST: a line is 4 words, and its place is its index. Word by word:
-//   0 from its lowest byte on, LANTHANUMBAT_HEAD makes one:
+//   0 from its lowest byte on (lanthanumbat_head makes one):
 //     byte 0 kind: 1 const, 2 read, 3 write, 4 add, 5 sub, 6 mul, 7 udiv, 8 sdiv, 9 urem, 10 sll, 11 srl, 12 ult, 13 uext, 14 ite, 15 eq,
 //       16 and, 17 or, 18 not, 19 state, 20 next, 21 input, 22 bad
 //     byte 1 sort: 1 bit, 2 word of 64 bits, 3 memory, 11 to 17 an input of 1 to 7 bytes; the sort that uext extends from
@@ -30,7 +35,8 @@
 // REFUSALS: a function gives 0, or the number of the first refusal that applies, and then changes nothing:
 //   1 kind not among the 50   2 a register field that the kind uses is above 31, or imm is outside its format   3 shift amount
 //   4 Srliw by 0   5 rd is x0   6 Jalr with an offset under a register   7 no flag of sort bit where one is needed
-//   8 no room for what the instruction appends   9 a count or an identifier too large, a run outside the list, fewer than 85 words of state
+//   8 no room for what the instruction appends, or more than 1,048,576 lines   9 a count or an identifier too large, a run outside the
+//   list, fewer than 85 words of state
 //   10 identifiers at the start   11 a line that is not well formed   12 the sort rule   13 a role   14 the output is too short
 #ifndef LANTHANUMBAT_H
 #define LANTHANUMBAT_H
@@ -44,17 +50,28 @@ extern "C" {
 
 enum { LANTHANUMBAT_LINE = 4, LANTHANUMBAT_EDGE = 4, LANTHANUMBAT_DISPATCH = 2, LANTHANUMBAT_STATE = 85, LANTHANUMBAT_CALL = 7, LANTHANUMBAT_MOST_LINES = 1048576 };
 
-// The first word of a line.
-#define LANTHANUMBAT_HEAD(identifier, kind, sort, area, init) \
-    ((uint64_t)(identifier) << 32 | (uint64_t)(uint8_t)(init) << 24 | (uint64_t)(uint8_t)(area) << 16 | (uint64_t)(uint8_t)(sort) << 8 | (uint8_t)(kind))
+// A flag that is absent: the largest place, which no list reaches.
+#define LANTHANUMBAT_NO_FLAG ((size_t)-1)
 
-// Lowers one instruction. Refusals 9, 13, 1 to 8. An instruction appends at most 37 lines, 2 edges, a dispatch, or a bad and its name.
+// The first word of a line. A number that its field cannot hold becomes the largest that it can, 255 for kind, sort and area and 2^32 - 1 for
+// the identifier, which no start that is accepted has; init is 1 for any number but 0. For constants: each argument is evaluated twice.
+#define LANTHANUMBAT_HEAD(identifier, kind, sort, area, init)                                                                     \
+    (LANTHANUMBAT_AT_MOST(identifier, 0xffffffffu) << 32 | (uint64_t)((init) != 0) << 24 | LANTHANUMBAT_AT_MOST(area, 0xffu) << 16 | \
+     LANTHANUMBAT_AT_MOST(sort, 0xffu) << 8 | LANTHANUMBAT_AT_MOST(kind, 0xffu))
+#define LANTHANUMBAT_AT_MOST(number, most) ((uint64_t)(number) < (most) ? (uint64_t)(number) : (uint64_t)(most))
+
+// The same as a function.
+static inline uint64_t lanthanumbat_head(uint64_t identifier, uint64_t kind, uint64_t sort, uint64_t area, uint64_t init) {
+    return LANTHANUMBAT_HEAD(identifier, kind, sort, area, init);
+}
+
+// Lowers one instruction. Refusals 9, 13, 1 to 8. An instruction appends at most 35 lines, 2 edges, a dispatch, or a bad and its name.
 //   address         of the instruction
 //   kind            0 to 49: Lui Auipc Lb Lh Lw Ld Lbu Lhu Sb Sh Sw Sd Addi Sltiu Xori Ori Andi Slli Srli Srai Addiw Slliw Srliw Sraiw
 //                   Add Sub Sll Sltu Srl Sra Or And Mul Div Divu Remu Addw Divw Subw Sllw Mulw Beq Bne Blt Bge Bltu Bgeu Jal Jalr Ecall
 //   rd, rs1, rs2    registers; a field that the kind does not use is not looked at
 //   imm             the immediate as a word of 64 bits, negative ones as two's complement
-//   flag            the place of the line under which the instruction is done; any place outside the list where there is none
+//   flag            the place of the line under which the instruction is done; LANTHANUMBAT_NO_FLAG where there is none
 uint64_t lanthanumbat_lower(uint64_t *list, size_t list_words, uint8_t *names, size_t names_bytes, uint64_t *edges, size_t edges_words,
                             uint64_t *dispatches, size_t dispatches_words, uint64_t *bads, size_t bads_words, uint64_t *state,
                             size_t state_words, uint64_t address, uint64_t kind, uint64_t rd, uint64_t rs1, uint64_t rs2, uint64_t imm,

@@ -4,7 +4,7 @@
     tools/firmware_lines_test.py              the tests; samples/ must be what they make
     tools/firmware_lines_test.py --samples    writes samples/firmware.bin, assembled below, and samples/firmware.txt, its lines
 
-The words of WORDS were taken once from LLVM's assembler, for the text behind `#`, and each line was written by hand after that text.
+The words of WORDS were taken once from LLVM's assembler, for the text after `#`, and each line was written by hand after that text.
 `encode` puts a line's fields where the RISC-V manual's formats have them, for the sample; it must give the same words.
 """
 import pathlib

@@ -3,6 +3,11 @@
 
     tools/lowering_cases.py stdin    crates/lowering_cases/stdin: a command to a line
     tools/lowering_cases.py stdout   crates/lowering_cases/stdout: what each lowering appends, or its refusal
+    tools/lowering_cases.py check    makes both anew and compares them with the stored ones: exit status 1 where they differ
+
+There are two starts: the listing's, and the oracle's start apart, in which no two roles are one line and identifiers drift from places
+(differential/oracle/driver.rs). Both are read off what the oracle prints of them. The program has the first by itself and is handed the
+second, record by record and role by role.
 
 The instructions are hand-picked boundary lines and lines of differential/generate.py. What they append is read off the text that the
 unchanged Rust prints for them (differential/target/oracle, which differential/build.sh makes): its node lines, edges, dispatches and
@@ -13,26 +18,31 @@ numbers are written by hand after document 01. Where set counts leave just enoug
 identifiers that those counts make of them. Nothing here is shared with the project's definitions and code; the layout of the records and
 the numbers of kinds and origins are the crates'.
 """
+import functools
 import pathlib
 import subprocess
 import sys
 
 from refusal import BRANCHES, KINDS, refusal
 
-DIFFERENTIAL = pathlib.Path(__file__).resolve().parent.parent / "differential"
+REPOSITORY = pathlib.Path(__file__).resolve().parent.parent
+DIFFERENTIAL = REPOSITORY / "differential"
 
 # The printed operators in the order of unicorn's `Node`.
 OPERATORS = "constd read write add sub mul udiv sdiv urem sll srl ult uext ite eq and or not state next input bad".split()
 ORIGINS = "regular branch syscall".split()
 SORT_OF_WIDTH = {1: 1, 8: 11, 16: 12, 24: 13, 32: 14, 40: 15, 48: 16, 56: 17}
 
-FIRST = 20  # the identifier at place 0; no State of the start has an init, so that places and identifiers keep their distance
+# The listing's start: no State of it has an init, so that places and identifiers keep their distance.
+FIRST = 20  # the identifier at place 0
 START = 59  # the first identifier that is appended
 FLAG = 58 - FIRST
 HOLDS, NAME_BYTES, EDGES, DISPATCHES, BADS = 800, 1024, 3, 2, 32  # what the program lends
 TOP = 2**64 - 1
 NO_CONDITION = TOP
+LOWER = 1  # the program's command
 IN_A_BATCH = 20
+FLOWS = 39  # the role of x1's flow, the first that a lowering changes
 
 
 #
@@ -40,35 +50,84 @@ IN_A_BATCH = 20
 #
 
 
-def oracle(lines):
-    """What the Rust prints for these input lines together, the flows last."""
+def oracle(arguments, lines=()):
+    """What the Rust prints for these input lines together."""
     text = "".join(" ".join(map(str, line)) + "\n" for line in lines)
-    run = subprocess.run([DIFFERENTIAL / "target" / "oracle", "--flows"], input=text, capture_output=True, text=True, check=True)
+    run = subprocess.run([DIFFERENTIAL / "target" / "oracle", *arguments], input=text, capture_output=True, text=True, check=True)
     return run.stdout.splitlines()
 
 
-def answers(lines):
-    """For each line what the Rust prints for it, and the flows after it: a run for each longer beginning of the lines."""
-    seen = 0
-    for n in range(1, len(lines) + 1):
-        *printed, flows = oracle(lines[:n])
-        assert flows.startswith("; flows ")
-        yield printed[seen:], flows.split()[2:]
-        seen = len(printed)
+class Start:
+    """A start of the oracle: the place of each identifier, the records, the places of the roles and of the flag, the next identifier."""
+
+    def __init__(self, *chosen):
+        self.chosen = chosen
+        self.places, self.records = {}, []
+        *lines, roles, flag = oracle([*chosen, "--start"])
+        for line in lines:
+            self.take(line.split())
+        self.roles = [self.places[int(nid)] for nid in roles.removeprefix("; roles ").split()]
+        self.flag = self.places[int(flag.removeprefix("; flag "))]
+        self.lines, self.next = len(self.records), int(lines[-1].split()[0]) + 1
+
+    def take(self, fields):
+        nid, operator, sort, *rest = fields
+        if operator == "init":  # the second line of the State before it
+            state, value = map(int, rest)
+            assert self.places[state] == len(self.records) - 1
+            self.records[-1][3], self.records[-1][6] = self.places[value], 1
+            return
+        assert operator in ("constd", "state")
+        imm = int(rest[0]) if operator == "constd" else 0
+        self.places[int(nid)] = len(self.records)
+        self.records.append([int(nid), OPERATORS.index(operator) + 1, int(sort), 0, 0, 0, imm, 0, 0, 0])
+
+    def put(self):
+        """The program's commands that make this start: every record, the counts, every role."""
+        for place, record in enumerate(self.records):
+            yield (5, place, *record), []
+        yield from self.put_again()
+        for role, place in enumerate(self.roles[:FLOWS]):
+            yield (4, role, place), []
+
+    def put_again(self):
+        """Those that make it anew where its records still stand: a lowering appends lines and changes flows."""
+        yield counts(lines=self.lines, nid=self.next)
+        for role, place in enumerate(self.roles[FLOWS:], FLOWS):
+            yield (4, role, place), []
+
+    def answers(self, lines):
+        """For each line what the Rust prints for it, and the flows after it."""
+        printed = []
+        for text in oracle([*self.chosen, "--each"], lines):
+            if text.startswith("; flows "):
+                yield printed, text.split()[2:]
+                printed = []
+            else:
+                printed.append(text)
+
+    def lowered(self, instructions, **counted):
+        """Pairs of a command and its answer, from this start with these counts."""
+        batch = Batch(self, **counted)
+        for line, (printed, flows) in zip(instructions, self.answers(instructions)):
+            yield lower(line, self.flag), batch.answer(line, printed, flows)
 
 
 class Batch:
-    """The program's state as far as its output shows it, and the answers in its format. The Rust's lines start at 59; where the program's
-    counts were set to others, the lines stand at those."""
+    """The program's state as far as its output shows it, and the answers in its format. The Rust's lines start where the start ends; where
+    the program's counts were set to others, the lines stand at those."""
 
-    def __init__(self, lines=START - FIRST, nid=START, names=0, edges=0, dispatches=0, bads=0):
-        self.lines, self.nid, self.names, self.edges, self.dispatches, self.bads = lines, nid, names, edges, dispatches, bads
-        self.first = lines
-        self.rust = START
+    def __init__(self, start, lines=None, nid=None, names=0, edges=0, dispatches=0, bads=0):
+        self.start = start
+        self.lines = start.lines if lines is None else lines
+        self.nid = start.next if nid is None else nid
+        self.names, self.edges, self.dispatches, self.bads = names, edges, dispatches, bads
+        self.first = self.lines
+        self.rust = start.next
 
     def place(self, nid):
         nid = int(nid)
-        return nid - FIRST if nid < START else self.first + nid - START
+        return self.start.places[nid] if nid < self.start.next else self.first + nid - self.start.next
 
     def record(self, text):
         """The numbers of a node line as its record is read, and its name where it is bad."""
@@ -128,6 +187,16 @@ class Batch:
         return [f"refused {number}"] if number else self.accepted(printed, flows)
 
 
+@functools.cache
+def listing():
+    return Start()
+
+
+@functools.cache
+def apart():
+    return Start("--apart")
+
+
 #
 # The instructions
 #
@@ -136,7 +205,7 @@ class Batch:
 def lower(line, flag=FLAG):
     address, kind, rd, rs1, rs2, imm = line
     number = KINDS.index(kind) if kind in KINDS else 255 if kind == "Lwu" else len(KINDS)
-    return 1, address, number, rd, rs1, rs2, imm % 2**64, flag
+    return LOWER, address, number, rd, rs1, rs2, imm % 2**64, flag
 
 
 def boundary_lines():
@@ -186,11 +255,14 @@ def boundary_lines():
     yield 0, "Xor", 1, 2, 3, 4
 
 
+def fields(text):
+    address, kind, *rest = text.split()
+    return (int(address), kind, *map(int, rest))
+
+
 def generated_lines(seed, count):
     run = subprocess.run([DIFFERENTIAL / "generate.py", str(seed), str(count)], capture_output=True, text=True, check=True)
-    for text in run.stdout.splitlines():
-        address, kind, *rest = text.split()
-        yield (int(address), kind, *map(int, rest))
+    yield from map(fields, run.stdout.splitlines())
 
 
 def batches():
@@ -203,10 +275,46 @@ def batches():
 
 
 def lowered(instructions, **counted):
-    """Pairs of a command and its answer, from a fresh start with these counts."""
-    batch = Batch(**counted)
-    for line, (printed, flows) in zip(instructions, answers(instructions)):
-        yield lower(line), batch.answer(line, printed, flows)
+    """From the listing's start."""
+    return listing().lowered(instructions, **counted)
+
+
+#
+# The start apart
+#
+
+
+def apart_lines():
+    """From the start in which no two roles are one line: every kind with registers and with x0, and chains."""
+    for n, kind in enumerate(KINDS):  # each rd is set again, each register is read again
+        yield 65536 + 4 * n, kind, 5 + n % 3, 6, 5, {"Jalr": 0}.get(kind, 4)
+    for n, kind in enumerate(KINDS):  # from x0 alone, and without an offset
+        yield 2**64 - 4 * n - 4, kind, 31, 0, 0, {"Srliw": 31}.get(kind, 0)
+    for kind in ("Lb", "Lh", "Lw", "Ld", "Lbu", "Lhu", "Sb", "Sh", "Sw", "Sd"):
+        yield 0, kind, 1, 2, 3, 0
+        yield 4, kind, 1, 0, 1, -2048
+    for rd, rs1 in ((0, 0), (0, 31), (1, 0), (1, 1)):
+        yield 43981, "Jalr", rd, rs1, 0, 0
+    yield 43985, "Jalr", 0, 0, 0, 8
+    yield 43989, "Jalr", 0, 1, 0, 8  # 6
+    yield 0, "Addi", 0, 1, 0, 5
+    yield 0, "Addi", 0, 0, 0, 0
+    yield 0, "Jal", 0, 0, 0, 8
+    yield 0, "Lui", 0, 0, 0, 1  # 5
+    # every flow that a call can set, twice or more
+    for n in range(2):
+        for kind in ("Ld", "Sd", "Add", "Mul", "Mulw", "Div", "Divu", "Remu", "Divw", "Sb", "Ecall", "Sub", "Addw", "Sw"):
+            yield 4 * n, kind, 7, 7, 7, 8
+    yield from generated_lines(6, IN_A_BATCH)
+
+
+def from_apart(lines):
+    """Commands and answers for these lines, so many a start: the start's records are put once."""
+    yield from apart().put()
+    for n in range(0, len(lines), IN_A_BATCH):
+        if n:
+            yield from apart().put_again()
+        yield from apart().lowered(lines[n : n + IN_A_BATCH])
 
 
 #
@@ -326,11 +434,26 @@ def commands():
     yield from room_cases()
     yield from count_cases()
     yield from role_cases()
+    yield from from_apart(list(apart_lines()))
+    yield FRESH
+
+
+def main(arguments, crate, commands, usage):
+    """Writes what a crate's stdin or stdout is to hold, or compares both with the stored ones."""
+    made = list(commands())
+    texts = {
+        "stdin": "".join(" ".join(map(str, command)) + "\n" for command, _ in made),
+        "stdout": "".join(text + "\n" for _, answer in made for text in answer),
+    }
+    if arguments in (["stdin"], ["stdout"]):
+        sys.stdout.write(texts[arguments[0]])
+        return 0
+    if arguments != ["check"]:
+        sys.exit(usage)
+    differing = [name for name, text in texts.items() if (REPOSITORY / "crates" / crate / name).read_text() != text]
+    print(*[f"crates/{crate}/{name} is not what is made now" for name in differing] or ["no difference"], sep="\n")
+    return len(differing) != 0
 
 
 if __name__ == "__main__":
-    for command, answer in commands():
-        if sys.argv[1:] == ["stdin"]:
-            print(*command)
-        else:
-            print(*answer, sep="\n", end="\n" if answer else "")
+    sys.exit(main(sys.argv[1:], "lowering_cases", commands, __doc__))

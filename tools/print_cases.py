@@ -163,7 +163,7 @@ def every_kind():
 
 
 def names_and_inits():
-    """Every name on every named kind, with and without an init, whose row has the identifier behind the state's."""
+    """Every name on every named kind, with and without an init, whose row has the identifier after the state's."""
     lines = [record(1, "Const", 1, imm=1), record(MOST_NID, "State", 3, name=(2, 0, 4))]
     for name in NAMES:
         for kind, sort, ops, imm in (("State", 2, (), 0), ("State", 17, (1, 5, TOP), 1), ("State", 1, (0,), TOP), ("Input", 14, (), 0), ("Bad", 0, (0,), 0)):

@@ -6,11 +6,14 @@
 
 The answers are read off document 01 by `refusal` below, which shares nothing with the project's definitions and code but the layout of the
 records, the numbers of the kinds and the order of the roles. Where a start is made for one rule, its number is written beside it as well,
-and both must agree.
+and both must agree. One start is the one that crates/lowering_cases/stdin hands over, in which no two roles are one line.
 """
 import itertools
+import pathlib
 import random
 import sys
+
+HANDED = pathlib.Path(__file__).resolve().parent.parent / "crates" / "lowering_cases" / "stdin"
 
 TOP = 2**64 - 1
 NAMES = "Const Read Write Add Sub Mul Divu Div Rem Sll Srl Ult Ext Ite Eq And Or Not State Next Input Bad".split()
@@ -33,7 +36,7 @@ assert len(ROLE_SORTS) == 79
 
 # The words of a record. What the program has: words of the list, and the most that it lends of the rest.
 RECORD = 4
-WORDS, AREA, NUMBERS = 60 * RECORD, 64, 64
+WORDS, AREA, NUMBERS = 100 * RECORD, 64, 64
 
 
 class Line:
@@ -43,9 +46,10 @@ class Line:
         number = KIND[kind] if isinstance(kind, str) else kind
         ops = (*operands, 0, 0, 0)[:3]
         self.given = (nid, number, sort, *ops, imm, *name)
-        # the record has four bytes for the identifier, and one each for the kind, the sort, the mark of a State's init and the area of a name
+        # the record has four bytes for the identifier and one each for the kind, the sort and the area of a name: what does not fit is stored
+        # as the largest that does. The init of a State is marked by 1
         area, *part = name
-        self.words = (nid % 2**32, number % 256, sort % 256, *ops, imm % 256 if number == KIND["State"] else imm, area % 256, *part)
+        self.words = (min(nid, 2**32 - 1), min(number, 255), min(sort, 255), *ops, min(imm, 1) if number == KIND["State"] else imm, min(area, 255), *part)
 
     @property
     def nid(self):
@@ -88,6 +92,11 @@ class Line:
         if self.name == "Write":
             return MEMORY
         return WORD if self.name in ("Read", "Ext", *ARITHMETIC) else self.sort
+
+    def at(self, nid):
+        """The same with another identifier."""
+        _, kind, sort, op1, op2, op3, imm, *name = self.given
+        return Line(kind, nid, sort, (op1, op2, op3), imm, name)
 
 
 class Start:
@@ -211,8 +220,27 @@ def listing(**given):
     return Start(lines, roles, **given)
 
 
+def handed(**given):
+    """The start that the program of lowerings is handed: its lines (5), counts (3) and roles (4), up to the first call (1)."""
+    lines, roles, counts = [], [None] * 79, None
+    for command in HANDED.read_text().splitlines():
+        which, *numbers = map(int, command.split())
+        if which == 5:
+            place, nid, kind, sort, *operands, imm, area, at, length = numbers
+            assert place == len(lines)
+            lines.append(Line(kind, nid, sort, operands, imm, (area, at, length)))
+        elif which == 3 and lines:
+            counts = numbers
+        elif which == 4 and lines:
+            roles[numbers[0]] = numbers[1]
+        elif which == 1 and lines:
+            break
+    assert None not in roles and counts[0] == len(lines)
+    return Start(lines, roles, **{"next_nid": counts[1], **given})
+
+
 def small(*more, nids=(20, 21, 22), **given):
-    """A Bit, a Word and a Memory, and lines behind them."""
+    """A Bit, a Word and a Memory, and lines after them."""
     a, b, c = nids
     return Start([Line("Const", a, BIT), Line("Const", b, WORD), Line("State", c, MEMORY), *more], roles_at(0, 1, 2), **given)
 
@@ -244,13 +272,15 @@ def accepted():
     yield small(nids=(8, 9, 10), next_nid=18)
     yield small(nids=(10, 18, 19))
     yield small(nids=(4, 10, 2**31 - 1))
+    yield handed()
+    yield handed(words=82 * RECORD)
     yield listing(words=39 * RECORD)
     yield listing(words=40 * RECORD - 1)
     yield listing(area=0, edge_words=0, dispatch_words=0, bad_words=0)
     yield small(names=16, edges=2, dispatches=2, bads=2)
     yield small(edge_words=7, edges=1)
     yield small(dispatch_words=3, dispatches=1)
-    yield small(Line(0, 0), lines=3, next_nid=23)  # behind the count
+    yield small(Line(0, 0), lines=3, next_nid=23)  # past the count
     for place, length in ((0, 16), (16, 0), (15, 1), (1, 15)):
         for area in (1, 2):
             yield one_more("State", WORD, name=(area, place, length))
@@ -267,6 +297,8 @@ def accepted():
     yield small(Line("State", 23, WORD, (1,), 1), next_nid=25)
     yield small(Line("State", 23, WORD, (1,)), next_nid=24)
     yield small(Line("State", 23, WORD, (1,)), Line("Const", 24, BIT))
+    for mark in (2, 255, 256, 2**32, TOP):  # any but 0 is an init
+        yield small(Line("State", 23, WORD, (1,), mark), Line("Const", 25, BIT))
     for sort, width in WIDTH.items():
         yield one_more("Const", sort, imm=2**width - 1)
 
@@ -276,7 +308,8 @@ def refused_9():
     yield small(next_nid=TOP)
     yield small(lines=1048577)
     yield small(lines=TOP)
-    yield small(lines=61)
+    yield small(lines=WORDS // RECORD + 1)
+    yield handed(words=82 * RECORD - 1)
     yield listing(words=39 * RECORD - 1)
     yield listing(words=0)
     for count in (17, TOP):
@@ -308,6 +341,17 @@ def refused_10():
     yield small(Line("State", 23, WORD, (1,), 1), Line("Const", 24, BIT))
     yield small(Line("State", TOP, WORD, (1,), 1), next_nid=2**31)
     yield small(Line(0, 22), next_nid=23)
+    yield handed(next_nid=handed().next - 1)
+    for place, line in enumerate(handed().stored):  # the identifier after a State's init is taken again
+        if line.has_init:
+            s = handed()
+            s.stored[place + 1] = s.stored[place + 1].at(line.nid + 1)
+            yield s
+    for mark in (2, 255, 256, 2**32, TOP):
+        yield small(Line("State", 23, WORD, (1,), mark), Line("Const", 24, BIT))
+    for nid in (2**32 - 1, 2**32, 2**32 + 23, TOP):
+        yield small(Line("Const", nid, BIT), next_nid=24)
+        yield small(Line("Const", nid, BIT), next_nid=2**31)
     yield small(Line("State", 23, 4, (1,), 1), Line(23, 23), next_nid=24)
 
 
@@ -320,6 +364,13 @@ def refused_11():
             yield one_more(kind, sort, (1, 1, 1))
     yield small(Line("State", 23, 4, (1,), 1), Line("Const", 24, BIT))  # of an unknown sort, it takes one identifier
     yield one_more("Ext", MEMORY, (2,))
+    for over in (256, 512, 2**32, TOP - 255):  # what does not fit its byte is no other kind, sort or area
+        for kind in KIND.values():
+            yield one_more(kind + over, WORD, (1, 1, 1))
+        for sort in (BIT, WORD, MEMORY):
+            yield one_more("State", sort + over)
+        for area in (0, 1, 2):
+            yield one_more("State", WORD, name=(area + over, 0, 0))
     for kind in [*OPERANDS, "State"]:
         count = OPERANDS.get(kind, 1)
         for n in range(count):
@@ -355,6 +406,8 @@ def refused_12():
     yield one_more("Not", MEMORY, (2,))
     yield one_more("State", WORD, (0,), imm=1)
     yield one_more("State", MEMORY, (0,), imm=1)
+    yield one_more("State", WORD, (0,), imm=256)
+    yield one_more("State", WORD, (0,), imm=TOP)
     yield one_more("Next", WORD, (1, 1))
     yield one_more("Next", MEMORY, (2, 1))
     yield one_more("Bad", operands=(1,))
@@ -470,7 +523,7 @@ def commands():
             if records.get(place, (0,) * 10) != line.given:
                 records[place] = line.given
                 yield (1, place, *line.given), None
-        # What stands behind a start's records is left by those before it: `Start.line` reads 0 there, so no count may reach it.
+        # What stands after a start's records is left by those before it: `Start.line` reads 0 there, so no count may reach it.
         for place in range(len(s.stored), min(s.lines, WORDS // RECORD)):
             if records.get(place, (0,) * 10) != (0,) * 10:
                 records[place] = (0,) * 10
@@ -499,4 +552,5 @@ def main():
         sys.exit(__doc__)
 
 
-main()
+if __name__ == "__main__":
+    main()

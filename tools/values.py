@@ -11,7 +11,7 @@ BTOR2's operators as SMT-LIB defines them, on boundary-heavy registers and memor
 All instructions of a listing read the start's nodes, so each is compared by itself, in a long listing as in a short one. Which line is a
 flow is read off the structure: the start's flows are the nodes 24 to 54 (x1 to x31) and 55 (memory); an instruction that writes rd has, as
 its last line `ite 2 58 RESULT OLD`, the new flow of rd, and a store, as its last line `ite 3 58 RESULT OLD`, that of the memory. OLD must be
-the flow before it. An empty input line stands behind each instruction; its refusal shows where the instruction's lines end.
+the flow before it. An empty input line stands after each instruction; its refusal shows where the instruction's lines end.
 
 Exceptions, those of docs/DIFFERENCES.md, each tested to be exactly this one and counted:
 - Mul, Mulw: three lines are ill-sorted and have no value; the product is right. No line of another kind is ill-sorted;

@@ -134,10 +134,10 @@ impl Record {
 }
 
 //
-// The start, identifiers 20 to 58
+// The starts: each with its flag
 //
 
-pub(super) fn start() -> (ModelBuilder, NodeRef) {
+fn empty() -> ModelBuilder {
     let model_values = ModelValues {
         is_64bit: true,
         run_32bit: false,
@@ -148,8 +148,21 @@ pub(super) fn start() -> (ModelBuilder, NodeRef) {
     };
     let mut b = ModelBuilder::new(0, 0, 0, model_values);
     b.current_nid = 20;
-    b.zero_bit = b.add_node(Node::Const { nid: 20, sort: NodeType::Bit, imm: 0 });
-    b.one_bit = b.add_node(Node::Const { nid: 21, sort: NodeType::Bit, imm: 1 });
+    for _ in 1..NUMBER_OF_REGISTERS {
+        b.dynamic.push(vec![]);
+    }
+    b
+}
+
+fn bit(b: &mut ModelBuilder, imm: u64) -> NodeRef {
+    b.add_node(Node::Const { nid: b.current_nid, sort: NodeType::Bit, imm })
+}
+
+// The listing's, identifiers 20 to 58.
+pub(super) fn start() -> (ModelBuilder, NodeRef) {
+    let mut b = empty();
+    b.zero_bit = bit(&mut b, 0);
+    b.one_bit = bit(&mut b, 1);
     b.zero_word = b.new_const(0);
     b.one_word = b.new_const(1);
     b.register_nodes.push(b.zero_word.clone());
@@ -157,7 +170,6 @@ pub(super) fn start() -> (ModelBuilder, NodeRef) {
         let node = b.new_state(None, format!("x{}", r), NodeType::Word);
         b.register_nodes.push(node.clone());
         b.register_flow.push(node);
-        b.dynamic.push(vec![]);
     }
     b.memory_node = b.new_state(None, "memory".to_string(), NodeType::Memory);
     b.memory_counter_node = b.new_state(None, "counter".to_string(), NodeType::Memory);
@@ -174,6 +186,50 @@ pub(super) fn start() -> (ModelBuilder, NodeRef) {
     b.ecall_flow = b.zero_bit.clone();
     assert_eq!((get_nid(&flag), b.current_nid), (58, 59));
     (b, flag)
+}
+
+// One in which no two roles are one line: x0 and every flow have lines of their own. Lines stand in another order than the roles, and
+// states with an init, which take two identifiers, stand before the roles and among them: identifiers and places drift apart on the way.
+fn start_apart() -> (ModelBuilder, NodeRef) {
+    let mut b = empty();
+    let init = b.new_const(41);
+    b.new_state(Some(init.clone()), "before".to_string(), NodeType::Word);
+    let flag = b.new_state(None, "flag".to_string(), NodeType::Bit);
+    for r in (1..NUMBER_OF_REGISTERS).rev() {
+        let flow = b.new_state((r % 3 == 0).then(|| init.clone()), format!("x{}-flow", r), NodeType::Word);
+        b.register_flow.insert(0, flow);
+    }
+    b.ecall_flow = b.new_state(None, "ecall-flow".to_string(), NodeType::Bit);
+    b.multiplication = b.new_state(None, "multiplication-flow".to_string(), NodeType::Bit);
+    b.addition_overflow = b.new_state(None, "addition-flow".to_string(), NodeType::Bit);
+    b.access_flow = b.new_state(Some(init.clone()), "access-flow".to_string(), NodeType::Word);
+    b.remainder_flow = b.new_state(None, "remainder-flow".to_string(), NodeType::Word);
+    b.division_flow = b.new_state(Some(init.clone()), "division-flow".to_string(), NodeType::Word);
+    b.memory_counter_max_flow = b.new_state(None, "counter-max-flow".to_string(), NodeType::Word);
+    b.memory_counter_flow = b.new_state(Some(init.clone()), "counter-flow".to_string(), NodeType::Memory);
+    b.memory_flow = b.new_state(None, "memory-flow".to_string(), NodeType::Memory);
+    for r in (1..NUMBER_OF_REGISTERS).rev() {
+        let node = b.new_state((r % 4 == 1).then(|| init.clone()), format!("x{}", r), NodeType::Word);
+        b.register_nodes.insert(0, node);
+    }
+    let x0 = b.new_const(0);
+    b.register_nodes.insert(0, x0);
+    b.memory_counter_max_node = b.new_state(Some(init.clone()), "counter-max".to_string(), NodeType::Word);
+    b.memory_counter_node = b.new_state(None, "counter".to_string(), NodeType::Memory);
+    b.memory_node = b.new_state(Some(init), "memory".to_string(), NodeType::Memory);
+    b.one_word = b.new_const(1);
+    b.zero_word = b.new_const(0);
+    b.one_bit = bit(&mut b, 1);
+    b.zero_bit = bit(&mut b, 0);
+    (b, flag)
+}
+
+fn chosen(apart: bool) -> (ModelBuilder, NodeRef) {
+    if apart {
+        start_apart()
+    } else {
+        start()
+    }
 }
 
 //
@@ -311,8 +367,16 @@ fn lower<W: Write>(b: &mut ModelBuilder, flag: &NodeRef, header: &str, line: &Li
     Ok(())
 }
 
-pub fn run(flows: bool) -> io::Result<()> {
-    let (mut b, flag) = start();
+// When the flows are written: not, after the last input line, after each.
+#[derive(PartialEq)]
+pub enum Flows {
+    No,
+    Last,
+    Each,
+}
+
+pub fn run(apart: bool, flows: Flows) -> io::Result<()> {
+    let (mut b, flag) = chosen(apart);
     let mut out = io::BufWriter::new(io::stdout().lock());
     let empty = printed(&[])?;
     let header = empty.strip_suffix(TRAILER).ok_or(io::Error::other("write_model: unknown trailer"))?;
@@ -328,16 +392,46 @@ pub fn run(flows: bool) -> io::Result<()> {
             Ok(line) => lower(&mut b, &flag, header, &line, &mut out)?,
             Err(answer) => writeln!(out, "{}", answer)?,
         }
-    }
-    if flows {
-        write!(out, "; flows")?;
-        let registers = b.register_flow.clone();
-        for flow in registers.iter().chain(single_flows(&mut b).into_iter().map(|flow| &*flow)) {
-            write!(out, " {}", get_nid(flow))?;
+        if flows == Flows::Each {
+            named_nids(&mut out, "flows", &flows_of(&mut b))?;
         }
-        writeln!(out)?;
+    }
+    if flows == Flows::Last {
+        named_nids(&mut out, "flows", &flows_of(&mut b))?;
     }
     out.flush()?;
     std::mem::forget(b);
     Ok(())
+}
+
+// A start by itself: its node lines, then the identifiers of its roles in the order of document 01, and of its flag.
+pub fn show_start(apart: bool) -> io::Result<()> {
+    let (mut b, flag) = chosen(apart);
+    let mut out = io::stdout().lock();
+    write!(out, "{}", node_lines_of(&b.lines)?)?;
+    let mut roles: Vec<NodeRef> = [
+        &b.zero_bit, &b.one_bit, &b.zero_word, &b.one_word, &b.memory_node, &b.memory_counter_node, &b.memory_counter_max_node,
+    ]
+    .into_iter()
+    .chain(&b.register_nodes)
+    .cloned()
+    .collect();
+    roles.extend(flows_of(&mut b));
+    named_nids(&mut out, "roles", &roles)?;
+    named_nids(&mut out, "flag", &[flag])?;
+    std::mem::forget(b);
+    Ok(())
+}
+
+fn flows_of(b: &mut ModelBuilder) -> Vec<NodeRef> {
+    let registers = b.register_flow.clone();
+    registers.into_iter().chain(single_flows(b).into_iter().map(|flow| flow.clone())).collect()
+}
+
+fn named_nids<W: Write>(out: &mut W, name: &str, nodes: &[NodeRef]) -> io::Result<()> {
+    write!(out, "; {}", name)?;
+    for node in nodes {
+        write!(out, " {}", get_nid(node))?;
+    }
+    writeln!(out)
 }

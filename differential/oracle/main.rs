@@ -1,7 +1,9 @@
 mod nodes;
 mod unicorn;
 
-const USAGE: &str = "usage: oracle [--flows] < lines, or oracle --nodes FROM COUNT < records";
+use unicorn::builder::{run, show_start, Flows};
+
+const USAGE: &str = "usage: oracle [--apart] [--flows | --each] < lines, or oracle [--apart] --start, or oracle --nodes FROM COUNT < records";
 
 fn usage() -> ! {
     eprintln!("{}", USAGE);
@@ -11,10 +13,16 @@ fn usage() -> ! {
 fn main() {
     let arguments: Vec<String> = std::env::args().skip(1).collect();
     let words: Vec<&str> = arguments.iter().map(String::as_str).collect();
-    let outcome = match words[..] {
-        [] => unicorn::builder::run(false),
-        ["--flows"] => unicorn::builder::run(true),
-        ["--nodes", from, count] => match (from.parse(), count.parse()) {
+    let (apart, rest) = match &words[..] {
+        ["--apart", rest @ ..] => (true, rest),
+        rest => (false, rest),
+    };
+    let outcome = match *rest {
+        [] => run(apart, Flows::No),
+        ["--flows"] => run(apart, Flows::Last),
+        ["--each"] => run(apart, Flows::Each),
+        ["--start"] => show_start(apart),
+        ["--nodes", from, count] if !apart => match (from.parse(), count.parse()) {
             (Ok(from), Ok(count)) => nodes::run(from, count),
             _ => usage(),
         },

@@ -1,4 +1,4 @@
--- A record in a text of cases: eleven decimal numbers, each behind the byte that ended the one before.
+-- A record in a text of cases: eleven decimal numbers, each after the byte that ended the one before.
 use Prim.Native.Nat.{ℕ}
 use mathlib.Core.List.{List}
 use Rattle.decimal_text.specs.Scan.{numberFrom}

@@ -4,6 +4,7 @@ use builder::Tally;
 use decimal_text::read_decimal;
 use lowering_refusals::Counts;
 use lowering_refusals::State;
+use roles::ROLES;
 ghost use mathlib.Core.Path.{_≡_};
 ghost use Rattle.case_state.specs.State.{countsFrom, roleFrom, withRole};
 
@@ -64,10 +65,10 @@ pub fn read_role(text: &[u8], from: usize, state: State) -> Step
     }
 }
 
-fn with_role(roles: [NodeRef; 79], role: usize, place: NodeRef) -> [NodeRef; 79]
+fn with_role(roles: [NodeRef; ROLES], role: usize, place: NodeRef) -> [NodeRef; ROLES]
     ensures { λ r. ⌜ r ≡ withRole roles role place ⌝ }
 {
-    if role >= roles::ROLES {
+    if role >= ROLES {
         return roles;
     }
     let mut next = roles;

@@ -3,7 +3,7 @@ ghost use mathlib.Core.Path.{_≡_};
 ghost use Prim.Native.Nat.{_+_, _-_, _*_, _%_, _^_, _≤_};
 ghost use Rattle.decimal_text.specs.Scan.{numberFrom};
 
-// A number, and the place behind the byte that ended it.
+// A number, and the place after the byte that ended it.
 pub struct Decimal {
     pub value: u64,
     pub next: usize,

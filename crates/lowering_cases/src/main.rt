@@ -1,16 +1,19 @@
-// Lowers the instructions of standard input on the listing's start, and writes what each appends. A command a line:
+// Lowers the instructions of standard input, on the listing's start or on one that it is handed, and writes what each appends. A command a
+// line:
 //   1 ADDRESS KIND RD RS1 RS2 IMM FLAG              lowers an instruction; FLAG is a place, IMM a word of 64 bits
 //   2                                               takes a fresh start
-//   3 LINES NID NAMES EDGES DISPATCHES BADS         sets the tally and the counts, for the refusals that speak of them
-//   4 ROLE PLACE                                    sets a role, for the refusal that speaks of it
-// Command 1 writes its lines as the ten numbers of their records, a bad line's name behind it, then edges, dispatches, bads, the tally and
-// the counts, and the places of the 40 flows; or its refusal. Places are those of the list: identifier 20 stands at 0.
+//   3 LINES NID NAMES EDGES DISPATCHES BADS         sets the tally and the counts
+//   4 ROLE PLACE                                    sets a role
+//   5 PLACE NID KIND SORT OP1 OP2 OP3 IMM AREA AT LEN   puts a line, for another start
+// Command 1 writes its lines as the ten numbers of their records, a bad line's name after it, then edges, dispatches, bads, the tally and
+// the counts, and the places of the 40 flows; or its refusal. Places are those of the list: on the listing's start identifier 20 stands at 0.
 // tools/lowering_cases.py made the commands and what is to be written.
 use btor2::NodeRef;
 use btor2_list::BAD;
 use btor2_list::Found;
 use btor2_list::Line;
 use builder::Tally;
+use case_record::read_record;
 use case_state::Step;
 use case_state::read_counts;
 use case_state::read_role;
@@ -20,6 +23,11 @@ use libc::STDOUT_FILENO;
 use lowering_refusals::Counts;
 use lowering_refusals::State;
 use riscv::Instruction;
+use roles::REGISTER_FLOWS;
+use roles::ROLES;
+
+// The flow of x1, the first.
+const FIRST_FLOW: usize = REGISTER_FLOWS + 1;
 
 fn main() {
     let mut buffer = [0u8; 65536];
@@ -88,7 +96,17 @@ fn run_line(
     if which == 3 {
         return read_counts(text, from, state);
     }
-    read_role(text, from, state)
+    if which == 4 {
+        return read_role(text, from, state);
+    }
+    let next = run_put(text, from, list);
+    Step { state, next }
+}
+
+fn run_put(text: &[u8], at: usize, list: &mut [u64]) -> usize {
+    let read = read_record(text, at);
+    btor2_list::put(list, read.place, read.line);
+    read.next
 }
 
 fn run_lower(
@@ -270,10 +288,9 @@ fn show_counts(tally: Tally, counts: Counts) {
     show(counts.bads as u64, b"\n");
 }
 
-// The flow of x1 is the first.
-fn show_flows(roles: [NodeRef; 79]) {
+fn show_flows(roles: [NodeRef; ROLES]) {
     io::write_all(STDOUT_FILENO, b"flows");
-    for role in 39..79 {
+    for role in FIRST_FLOW..ROLES {
         io::write_all(STDOUT_FILENO, b" ");
         let place = roles[role];
         io::print_decimal(STDOUT_FILENO, place.0 as u64);

@@ -3,7 +3,7 @@
 //   2 LINES NID NAMES EDGES DISPATCHES BADS             sets the tally and the counts
 //   3 ROLE PLACE                                        sets a role
 //   4 WORDS HOST NAMES EDGES DISPATCHES BADS            lends as much of each list and area, and checks the start
-// What a command sets stays for those behind it. tools/start_cases.py made the commands and what is to be written.
+// What a command sets stays for those after it. tools/start_cases.py made the commands and what is to be written.
 use btor2::NodeRef;
 use builder::Tally;
 use case_record::read_record;
@@ -15,11 +15,12 @@ use libc::STDIN_FILENO;
 use libc::STDOUT_FILENO;
 use lowering_refusals::Counts;
 use lowering_refusals::State;
+use roles::ROLES;
 
 fn main() {
     let mut buffer = [0u8; 262144];
     let n = io::read_full(STDIN_FILENO, &mut buffer);
-    let mut list = [0u64; 240];
+    let mut list = [0u64; 400];
     run(&buffer[..n], &mut list);
 }
 
@@ -45,7 +46,7 @@ fn empty() -> State {
             dispatches: 0,
             bads: 0,
         },
-        roles: [NodeRef(0); 79],
+        roles: [NodeRef(0); ROLES],
     }
 }
 

@@ -29,10 +29,29 @@ mod ffi {
     }
 }
 
-/// The first word of a line. `area` is that of its name, `init` not 0 for a state that has one.
-pub const fn head(identifier: u32, kind: u8, sort: u8, area: u8, init: u8) -> u64 {
-    (identifier as u64) << 32 | u32::from_le_bytes([kind, sort, area, init]) as u64
+/// The first word of a line. `area` is that of its name, `init` not 0 for a state that has one. A number that its field cannot hold becomes
+/// the largest that it can, 255 or 2^32 - 1, which no start that is accepted has.
+pub const fn head(identifier: u64, kind: u64, sort: u64, area: u64, init: u64) -> u64 {
+    const fn at_most(number: u64, most: u64) -> u64 {
+        if number < most {
+            number
+        } else {
+            most
+        }
+    }
+    const BYTE: u64 = u8::MAX as u64;
+    at_most(identifier, u32::MAX as u64) << 32
+        | at_most(init, 1) << 24
+        | at_most(area, BYTE) << 16
+        | at_most(sort, BYTE) << 8
+        | at_most(kind, BYTE)
 }
+
+/// A flag that is absent: the largest place, which no list reaches.
+pub const NO_FLAG: usize = usize::MAX;
+
+/// The most lines that a list holds.
+pub const MOST_LINES: usize = 1_048_576;
 
 /// The words of a line, an edge, a dispatch, the state and a call.
 pub const LINE: usize = 4;
@@ -85,7 +104,7 @@ impl Lent<'_> {
         self.state[0] as usize
     }
 
-    /// Lowers an instruction at an address under the flag at a place.
+    /// Lowers an instruction at an address under the flag at a place, or under [`NO_FLAG`].
     pub fn lower(&mut self, i: Instruction, address: u64, flag: usize) -> Result<(), Refusal> {
         // The slices are borrowed apart from each other, and the library keeps no pointer.
         #[rustfmt::skip]

@@ -1,0 +1,83 @@
+// What a host lends, with the listing program's start in it.
+#![allow(dead_code)]
+use lanthanumbat::{head, Instruction, Lent, DISPATCH, EDGE, LINE, STATE};
+
+pub const FLAG: usize = 38;
+pub const START: usize = 39;
+pub const FIRST: u64 = 20;
+
+pub const LUI: u64 = 0;
+pub const SRLIW: u64 = 22;
+pub const ADDW: u64 = 36;
+pub const MULW: u64 = 40;
+pub const BEQ: u64 = 41;
+pub const BLTU: u64 = 45;
+pub const JAL: u64 = 47;
+pub const JALR: u64 = 48;
+pub const ECALL: u64 = 49;
+
+// Kinds and sorts of a line, and the words of the state that are not roles.
+pub const CONST: u64 = 1;
+pub const STATE_LINE: u64 = 19;
+pub const BIT: u64 = 1;
+pub const WORD: u64 = 2;
+pub const MEMORY: u64 = 3;
+pub const LINES_USED: usize = 0;
+pub const NEXT_NID: usize = 1;
+pub const EDGES_USED: usize = 3;
+
+#[derive(Clone, PartialEq)]
+pub struct Storage {
+    pub list: Vec<u64>,
+    pub names: Vec<u8>,
+    pub edges: Vec<u64>,
+    pub dispatches: Vec<u64>,
+    pub bads: Vec<u64>,
+    pub state: [u64; STATE],
+}
+
+// Room for this many lines and edges.
+pub fn start(lines: usize, edges: usize) -> Storage {
+    let mut s = Storage {
+        list: vec![0; lines * LINE],
+        names: vec![0; 33],
+        edges: vec![0; edges * EDGE],
+        dispatches: vec![0; 2 * DISPATCH],
+        bads: vec![0; 2],
+        state: [0; STATE],
+    };
+    s.restart();
+    s
+}
+
+impl Storage {
+    // The bits and words 0 and 1; the states x1 to x31, memory, counter, counter-max and flag, without names.
+    pub fn restart(&mut self) {
+        let constants = [(CONST, BIT, 0), (CONST, BIT, 1), (CONST, WORD, 0), (CONST, WORD, 1)];
+        let states = [WORD; 31].into_iter().chain([MEMORY, MEMORY, WORD, BIT]).map(|sort| (STATE_LINE, sort, 0));
+        for (place, (kind, sort, imm)) in constants.into_iter().chain(states).enumerate() {
+            let line = [head(FIRST + place as u64, kind, sort, 0, 0), imm, 0, 0];
+            self.list[place * LINE..(place + 1) * LINE].copy_from_slice(&line);
+        }
+        let counts = [START as u64, FIRST + START as u64, 0, 0, 0, 0];
+        let nodes = [0, 1, 2, 3, 35, 36, 37, 2].into_iter().chain(4..35);
+        let flows = (4..35).chain([35, 36, 37, 3, 3, 2, 0, 0, 0]);
+        let words: Vec<u64> = counts.into_iter().chain(nodes).chain(flows).collect();
+        self.state.copy_from_slice(&words);
+    }
+}
+
+pub fn lent(s: &mut Storage) -> Lent<'_> {
+    Lent {
+        list: &mut s.list,
+        names: &mut s.names,
+        edges: &mut s.edges,
+        dispatches: &mut s.dispatches,
+        bads: &mut s.bads,
+        state: &mut s.state,
+    }
+}
+
+pub fn instruction(kind: u64, rd: u64, rs1: u64, rs2: u64, imm: i64) -> Instruction {
+    Instruction { kind, rd, rs1, rs2, imm }
+}

@@ -1,0 +1,91 @@
+// A list holds at most 1,048,576 lines: the last one is taken, the next is refused, and a start with one line more is no start. The storage
+// has room for more, so that it is the limit that refuses.
+mod common;
+
+use common::*;
+use lanthanumbat::{head, Refusal, LINE, MOST_LINES, NO_FLAG};
+
+const ADDW_LINES: usize = 18;
+
+#[test]
+fn up_to_the_limit_and_past_it() {
+    let full = (MOST_LINES - START) / ADDW_LINES;
+    assert_eq!(START + full * ADDW_LINES + 1, MOST_LINES);
+    let mut s = start(MOST_LINES + 100, full + 100);
+    let mut l = lent(&mut s);
+    let addw = |n: usize| instruction(ADDW, 1 + n as u64 % 31, 2, 3, 0).call(4 * n as u64, FLAG);
+    let calls: Vec<_> = (0..full).map(addw).collect();
+    assert_eq!(l.lower_all(&calls), (full, Ok(())));
+    assert_eq!(l.lines(), MOST_LINES - 1);
+
+    let ecall = instruction(ECALL, 0, 0, 0, 0);
+    let two_lines = instruction(BEQ, 0, 1, 2, 8);
+    let no_line = instruction(JAL, 0, 0, 0, 8);
+    assert_eq!(l.lower(two_lines, 0, NO_FLAG), Err(Refusal(8)));
+    assert_eq!(l.lower_all(&[two_lines.call(0, NO_FLAG)]), (0, Err(Refusal(8))));
+    assert_eq!(l.lower(ecall, 0, FLAG), Ok(()));
+    assert_eq!(l.lines(), MOST_LINES);
+    let last = [head(FIRST + MOST_LINES as u64 - 1, 14, BIT, 0, 0), FLAG as u64, 1, 0];
+    assert_eq!(&l.list[(MOST_LINES - 1) * LINE..MOST_LINES * LINE], &last);
+    assert_eq!(l.check_start(b""), Ok(()));
+
+    let (list, state) = (l.list.to_vec(), *l.state);
+    assert_eq!(l.lower(ecall, 4, FLAG), Err(Refusal(8)));
+    assert_eq!(l.lower_all(&[ecall.call(4, FLAG)]), (0, Err(Refusal(8))));
+    assert!(*l.list == list && *l.state == state);
+    assert_eq!(l.lower(no_line, 4, NO_FLAG), Ok(()));
+    assert_eq!(l.lines(), MOST_LINES);
+
+    // One line more, well formed.
+    l.list[MOST_LINES * LINE..(MOST_LINES + 1) * LINE].copy_from_slice(&[head(l.state[NEXT_NID], CONST, BIT, 0, 0), 0, 0, 0]);
+    l.state[LINES_USED] += 1;
+    l.state[NEXT_NID] += 1;
+    assert_eq!(l.check_start(b""), Err(Refusal(9)));
+    assert_eq!(l.lower(no_line, 4, NO_FLAG), Err(Refusal(9)));
+    assert_eq!(l.lower_all(&[no_line.call(4, NO_FLAG)]), (0, Err(Refusal(9))));
+    assert_eq!(l.print(b"", 0, 1, &mut [0; 100]), Err(Refusal(9)));
+    l.state[LINES_USED] -= 1;
+    l.state[NEXT_NID] -= 1;
+    assert_eq!(l.check_start(b""), Ok(()));
+    assert_eq!(l.print(b"", MOST_LINES - 1, 1, &mut [0; 100]), Ok("1048595 ite 1 58 21 20\n".len()));
+
+    // All of it as text, with just enough output and with a byte less.
+    let mut out = vec![0; 53 * MOST_LINES];
+    let bytes = l.print(b"", 0, MOST_LINES, &mut out).unwrap();
+    assert_eq!(out[..bytes].iter().filter(|byte| **byte == b'\n').count(), MOST_LINES);
+    assert!(out[..bytes].ends_with(b"\n1048595 ite 1 58 21 20\n"));
+    let mut short = vec![b'.'; bytes];
+    assert_eq!(l.print(b"", 0, MOST_LINES, &mut short[1..]), Err(Refusal(14)));
+    assert!(short.iter().all(|byte| *byte == b'.'));
+    assert_eq!(l.print(b"", 0, MOST_LINES, &mut short), Ok(bytes));
+    assert!(short == out[..bytes]);
+}
+
+// The most identifiers that lines take: every line after the start's is a state with an init, and takes two.
+#[test]
+fn states_with_an_init_up_to_the_limit() {
+    let mut s = start(MOST_LINES + 1, 8);
+    for place in START..MOST_LINES {
+        let nid = FIRST + START as u64 + 2 * (place - START) as u64;
+        s.list[place * LINE..(place + 1) * LINE].copy_from_slice(&[head(nid, STATE_LINE, WORD, 0, 1), 2, 0, 0]);
+    }
+    s.state[LINES_USED] = MOST_LINES as u64;
+    s.state[NEXT_NID] = FIRST + START as u64 + 2 * (MOST_LINES - START) as u64;
+    let mut l = lent(&mut s);
+    assert_eq!(l.check_start(b""), Ok(()));
+    assert_eq!(l.lower(instruction(ECALL, 0, 0, 0, 0), 0, FLAG), Err(Refusal(8)));
+    assert_eq!(l.lower(instruction(JAL, 0, 0, 0, 8), 0, NO_FLAG), Ok(()));
+    let mut out = [0; 100];
+    let bytes = l.print(b"", MOST_LINES - 1, 1, &mut out).unwrap();
+    assert_eq!(std::str::from_utf8(&out[..bytes]).unwrap(), "2097131 state 2 ?\n2097132 init 2 2097131 22\n");
+    l.state[NEXT_NID] -= 1;
+    assert_eq!(l.check_start(b""), Err(Refusal(10)));
+    l.state[NEXT_NID] = (1 << 31) + 1;
+    assert_eq!(l.check_start(b""), Err(Refusal(9)));
+    l.state[NEXT_NID] = 1 << 31;
+    assert_eq!(l.check_start(b""), Ok(()));
+    l.state[NEXT_NID] += 2_097_152;
+    assert_eq!(l.lower(instruction(JAL, 0, 0, 0, 8), 4, NO_FLAG), Ok(()));
+    l.state[NEXT_NID] += 1;
+    assert_eq!(l.lower(instruction(JAL, 0, 0, 0, 8), 8, NO_FLAG), Err(Refusal(9)));
+}
