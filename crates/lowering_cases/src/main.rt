@@ -134,7 +134,7 @@ fn run_lower(
         imm: imm.value,
     };
     let place = NodeRef(flag.value as usize);
-    let lowered = lowering_state::lower(
+    let lowered = lowering_calls::lower(
         list,
         names,
         edges,
