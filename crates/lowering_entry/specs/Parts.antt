@@ -30,7 +30,7 @@ withEdges st n =
       roles = st .roles;
     }
 
--- what the core gave, with the count of edges behind count others, and the edges out of the words
+-- what the core gave, with the count of edges after count others, and the edges out of the words
 abbrev pub takenApart : Lowered → ℕ → ℕ → List ℕ → Apart
 takenApart r count used ws =
     let added = r .state .counts .edges - used in
@@ -47,7 +47,7 @@ pub record Counted (r : Lowered) (count used : ℕ) : Type 0 where
   pub more : used ≤ r .state .counts .edges
   pub fits : count + (r .state .counts .edges - used) < 2 ^ 64
 
--- the edges that r adds fit behind count others, and with them appended the rest is right
+-- the edges that r adds fit after count others, and with them appended the rest is right
 pub record Rejoined (es : List InEdge) (count : ℕ) (r : Apart) (Right : List InEdge → Type 0) : Type 0 where
   pub fits : 0 < r .added → count + r .added ≤ length es
   pub right : Right (appended es count (r .added) (r .first) (r .second))

@@ -59,7 +59,7 @@ pub fn lower(
     out.lowered
 }
 
-// Appends at most two edges behind `count` others.
+// Appends at most two edges after `count` others.
 fn append_edges(edges: &mut [InEdge], count: usize, added: usize, first: InEdge, second: InEdge)
     requires { ⌜ (0 < added → count + added ≤ length (now edges)) ⌝ }
     ensures { λ _. ⌜ now (edges .exit) ≡ appended (now (edges .entry)) count added first second ⌝ }
@@ -106,7 +106,7 @@ fn lower_apart(
     taken_apart(r, c.edges, used, words)
 }
 
-// What the core gave, with the count of edges behind those that were there, and the edges out of their words.
+// What the core gave, with the count of edges after those that were there, and the edges out of their words.
 fn taken_apart(r: Lowered, count: usize, used: usize, words: [u64; 8]) -> Apart
     requires { ⌜ Counted r count used ⌝ }
     ensures { λ a. ⌜ a ≡ takenApart r count used words ⌝ }

@@ -1,4 +1,4 @@
--- A program that has room puts its lines behind those that stand, one after the other, and changes nothing else. One induction, for every
+-- A program that has room puts its lines after those that stand, one after the other, and changes nothing else. One induction, for every
 -- program. Assumes nothing.
 use Prim.Native.Nat.{ℕ, suc, _+_, _*_, _/_, _^_, _≤_, _<_}
 use mathlib.Core.Path.{_≡_, refl, sym, _∙_, ap, subst}
@@ -18,7 +18,7 @@ use Rattle.btor2_list.proofs.Fitting.{areaFits, line-fits}
 use Rattle.program.specs.Prog.{Prog, done, line, Run, ran, exec}
 use Rattle.builder.specs.declared.Tally.{Tally}
 use Rattle.builder.specs.Append.{Store, at, appendLine, append}
-use Rattle.lowering_laws.specs.Lines.{linesOf, answerOf, behind, numbered}
+use Rattle.lowering_laws.specs.Lines.{linesOf, answerOf, placeAfter, numbered}
 use Rattle.lowering_laws.proofs.Growth.{fitting}
 
 -- the lent words hold m more lines, and their identifiers fit the record
@@ -26,10 +26,10 @@ pub record Room (ws : List ℕ) (t : Tally) (m : ℕ) : Type 0 where
   pub lines : t .lines + m ≤ length ws / stride
   pub nids : t .nid + m < 2 ^ 32
 
--- what a run of the program p from ws and t has done, m being how many lines p has from the k-th on behind n others
+-- what a run of the program p from ws and t has done, m being how many lines p has from the k-th on after n others
 pub record Laid {X : Type 0} (n k m : ℕ) (ws : List ℕ) (t : Tally) (p : Prog ℕ X) (r : Run Store X) : Type 0 where
-  pub value : r .value ≡ answerOf (behind n) k p
-  pub nodes : view (r .state .words) (r .state .tally .lines) ≡ view ws (t .lines) ++ numbered (t .nid) (linesOf (behind n) k p)
+  pub value : r .value ≡ answerOf (placeAfter n) k p
+  pub nodes : view (r .state .words) (r .state .tally .lines) ≡ view ws (t .lines) ++ numbered (t .nid) (linesOf (placeAfter n) k p)
   pub lines : r .state .tally .lines ≡ t .lines + m
   pub nids : r .state .tally .nid ≡ t .nid + m
   pub size : length (r .state .words) ≡ length ws
@@ -59,8 +59,8 @@ room-next ws t o m r = record {
   nids = omega (arith, r .nids);
 }
 
-pub laid : {X : Type 0} (p : Prog ℕ X) (n k : ℕ) (ws : List ℕ) (t : Tally) → t .lines ≡ n + k → Room ws t (length (linesOf (behind n) k p)) → fitting (linesOf (behind n) k p) ≡ true
-    → Laid n k (length (linesOf (behind n) k p)) ws t p (exec append (at ws t) p)
+pub laid : {X : Type 0} (p : Prog ℕ X) (n k : ℕ) (ws : List ℕ) (t : Tally) → t .lines ≡ n + k → Room ws t (length (linesOf (placeAfter n) k p)) → fitting (linesOf (placeAfter n) k p) ≡ true
+    → Laid n k (length (linesOf (placeAfter n) k p)) ws t p (exec append (at ws t) p)
 unfolding linesOf answerOf numbered
 laid (done x) n k ws t e r fit = record {
   value = refl;
@@ -77,9 +77,9 @@ laid {X} (line o f) n k ws t e r fit =
     (go (laid (f (n + k)) n (k + 1) (put ws t o) (next t) (omega arith) (room-next ws t o m r) (both .1)))
   where
     m : ℕ
-    m = length (linesOf (behind n) (k + 1) (f (n + k)))
+    m = length (linesOf (placeAfter n) (k + 1) (f (n + k)))
 
-    both : (areaFits o ≡ true) × (fitting (linesOf (behind n) (k + 1) (f (n + k))) ≡ true)
+    both : (areaFits o ≡ true) × (fitting (linesOf (placeAfter n) (k + 1) (f (n + k))) ≡ true)
     both = and-both (areaFits o) _ fit
 
     placed : view (put ws t o) (t .lines + 1) ≡ view ws (t .lines) ++ (node (t .nid) o ∷ [])
@@ -88,7 +88,7 @@ laid {X} (line o f) n k ws t e r fit =
     go : {g : Run Store X} → Laid n (k + 1) m (put ws t o) (next t) (f (n + k)) g → Laid n k (suc m) ws t (line o f) g
     go h = record {
       value = h .value;
-      nodes = h .nodes ∙ ap (λ l. l ++ numbered (t .nid + 1) (linesOf (behind n) (k + 1) (f (n + k)))) placed ∙ append-assoc (view ws (t .lines)) _ _;
+      nodes = h .nodes ∙ ap (λ l. l ++ numbered (t .nid + 1) (linesOf (placeAfter n) (k + 1) (f (n + k)))) placed ∙ append-assoc (view ws (t .lines)) _ _;
       lines = omega (arith, h .lines);
       nids = omega (arith, h .nids);
       size = h .size ∙ put-length ws (t .lines) (lineOf (t .nid) o);

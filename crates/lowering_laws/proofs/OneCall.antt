@@ -1,4 +1,4 @@
--- One call: refused, all stays; accepted, the instruction's lines stand behind the others and all else stays. Assumes nothing.
+-- One call: refused, all stays; accepted, the instruction's lines stand after the others and all else stays. Assumes nothing.
 use Prim.Native.Nat.{ℕ, _+_, _^_, _≤_}
 use mathlib.Core.Path.{_≡_, refl, sym, ap, subst, _∙_}
 use mathlib.Core.Bool.{true}
@@ -20,7 +20,7 @@ use Rattle.lowering_refusals.proofs.Within.{within}
 use Rattle.lowering_refusals.proofs.Accepted as A
 use Rattle.lowering_lines.specs.Lines.{nameFor, programFrom}
 use Rattle.lowering.specs.Lowering.{Lent, programOf, settled, roomIn, refused, loweringGiven, lowering}
-use Rattle.lowering_laws.specs.Lines.{linesOf, behind}
+use Rattle.lowering_laws.specs.Lines.{linesOf, placeAfter}
 use Rattle.lowering_laws.specs.Accepted.{growth, Accepted}
 use Rattle.lowering_laws.proofs.EachKind.{reads}
 use Rattle.lowering_laws.proofs.Growth.{fitting, grows, fits, name-fits}
@@ -58,13 +58,13 @@ module _ (l : Lent) (st : State) (i : Instruction) (pc : ℕ) (flag : NodeRef) w
       nids = omega (arith, nid-in, at-most (kindAt (i .kind)) (eqb (i .imm) 0) (eqb (i .rd) 0) (eqb (i .rs1) 0));
     }
 
-    abbrev behind-them : ℕ → ℕ
-    behind-them = behind (st .tally .lines)
+    abbrev after-them : ℕ → ℕ
+    after-them = placeAfter (st .tally .lines)
 
     pub run : Laid (st .tally .lines) 0 (growth i) (l .list) (st .tally) (programOf st i pc flag) (exec append (at (l .list) (st .tally)) (programOf st i pc flag))
     run =
-        subst (λ m. Laid (st .tally .lines) 0 m (l .list) (st .tally) (programOf st i pc flag) (exec append (at (l .list) (st .tally)) (programOf st i pc flag))) (grown behind-them)
-        (laid (programOf st i pc flag) (st .tally .lines) 0 (l .list) (st .tally) (sym (add-zero _)) (rw (grown behind-them) room) (fit behind-them))
+        subst (λ m. Laid (st .tally .lines) 0 m (l .list) (st .tally) (programOf st i pc flag) (exec append (at (l .list) (st .tally)) (programOf st i pc flag))) (grown after-them)
+        (laid (programOf st i pc flag) (st .tally .lines) 0 (l .list) (st .tally) (sym (add-zero _)) (rw (grown after-them) room) (fit after-them))
 
     pub when-accepted : Accepted l st i pc flag (lowering l st i pc flag)
     unfolding loweringGiven settled needsOf

@@ -14,9 +14,9 @@ unfoldable pub answerOf : {A X : Type 0} → (ℕ → A) → ℕ → Prog A X �
 answerOf at k (done x) = x
 answerOf at k (line o f) = answerOf at (k + 1) (f (at k))
 
--- the places of lines behind n others
-abbrev pub behind : ℕ → ℕ → ℕ
-behind n k = n + k
+-- the places of lines after n others
+abbrev pub placeAfter : ℕ → ℕ → ℕ
+placeAfter n k = n + k
 
 -- lines under identifiers that go up by one
 unfoldable pub numbered : ℕ → List (Op ℕ) → List Node

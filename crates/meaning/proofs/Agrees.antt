@@ -20,7 +20,7 @@ pub record Flowed (flag old line : Value) (Right : Value → Type 0) : Type 0 wh
   pub is : line ≡ Smt.ite (flag .num) result old
   pub right : flag .num ≡ 1 → Right result
 
--- behind n lines, the roles having these values
+-- after n lines, the roles having these values
 module _ (env : Env) (n : ℕ) (ofRole : Role → Value) where
   unfoldable pub vals : List (Op Ref) → List Value
   unfolding read look evalOp binary mapOp

@@ -1,4 +1,4 @@
--- A template that is placed behind a list whose lines its roles are: its lines meet the sort rule, and have the values that it has by
+-- A template that is placed after a list whose lines its roles are: its lines meet the sort rule, and have the values that it has by
 -- itself. Assumes nothing.
 use Prim.Native.Nat.{ℕ, _<_}
 use native.Mathlib.Decide.{decLt}
@@ -16,7 +16,7 @@ use Rattle.btor2.specs.SortRule.{Judged, hasSort, is, judge, noLine, judged, al
 use Rattle.btor2.specs.Value.{Value, number, Env, evalOp, values, value}
 use Rattle.btor2.proofs.Sort.{same-sort}
 use Rattle.btor2.proofs.SortRule.{both, mark-line}
-use Rattle.lowering_laws.specs.Lines.{behind}
+use Rattle.lowering_laws.specs.Lines.{placeAfter}
 use Rattle.lowering_laws.proofs.Template.{Role, Ref, resolve}
 use Rattle.meaning.proofs.Walk.{placed, look, read, whole, seen}
 use Rattle.meaning.proofs.Roles.{sortOf, known, sorts, sortAt, has}
@@ -76,22 +76,22 @@ module _ (xs : List (Op ℕ)) (ρ : Role → ℕ) (ok : (r : Role) → T (lineIs
   unfolding meetsSortRule
   sorted-after os h k = subst (λ l. T (allRight l)) (sym (judged-after os)) (right-append (judged xs) (own os) h k)
 
-  mark-after : (os : List (Op Ref)) (x : Ref) → getD (judged (after os)) (resolve ρ (behind (length xs)) x) noLine ≡ sortAt (length xs) isState isRight (own os) x
+  mark-after : (os : List (Op Ref)) (x : Ref) → getD (judged (after os)) (resolve ρ (placeAfter (length xs)) x) noLine ≡ sortAt (length xs) isState isRight (own os) x
   unfolding judged sorts sortAt
   mark-after os x =
       seen Judged noLine judge xs ρ place-in os x
       ∙ ap (λ c. look Judged noLine judge c (read Judged noLine judge (length xs) c [] os) x) as-known
 
   pub has-after : (os : List (Op Ref)) (s : NodeType) (x : Ref) → T (has (length xs) isState isRight s (own os) x)
-      → T (lineIs s (after os) (resolve ρ (behind (length xs)) x))
+      → T (lineIs s (after os) (resolve ρ (placeAfter (length xs)) x))
   has-after os s x h =
-      subst T (mark-line s (after os) (resolve ρ (behind (length xs)) x)) (subst (λ j. T (is s (j .mark))) (sym (mark-after os x)) h)
+      subst T (mark-line s (after os) (resolve ρ (placeAfter (length xs)) x)) (subst (λ j. T (is s (j .mark))) (sym (mark-after os x)) h)
 
   module _ (env : Env) where
     abbrev pub ofRole : Role → Value
     ofRole r = value env xs (ρ r)
 
     pub value-after : (os : List (Op Ref)) (x : Ref)
-        → value env (after os) (resolve ρ (behind (length xs)) x) ≡ valAt env (length xs) ofRole (vals env (length xs) ofRole os) x
+        → value env (after os) (resolve ρ (placeAfter (length xs)) x) ≡ valAt env (length xs) ofRole (vals env (length xs) ofRole os) x
     unfolding value values vals valAt
     value-after os x = seen Value (number 0) (evalOp env) xs ρ place-in os x

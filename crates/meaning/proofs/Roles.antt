@@ -40,7 +40,7 @@ quiet (register x) = false
 quiet (memory x) = false
 quiet (branch x y) = true
 
--- behind n lines; a role may be a State or not, and what its own line is does not matter
+-- after n lines; a role may be a State or not, and what its own line is does not matter
 module _ (n : ℕ) (st rt : Role → Bool) where
   abbrev pub known : Role → Judged
   known r = record { mark = record { sort = Sort (sortOf r); isState = st r }; right = rt r }

@@ -48,7 +48,7 @@ pub data Finding : Type 0 where
   line : ℕ → Op ℕ → Finding
   -- the value of the line at a place, for some states
   value : ℕ → Env → ℕ → Finding
-  -- all in-edges, dispatches and bads, record behind record
+  -- all in-edges, dispatches and bads, record after record
   edges : List ℕ → Finding
   dispatches : List ℕ → Finding
   bads : List ℕ → Finding
