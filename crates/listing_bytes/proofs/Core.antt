@@ -1,11 +1,11 @@
 -- What the listing's laws rest on of the lowering: what one call leaves, and what an instruction needs. Assumes nothing.
 use Prim.Native.Nat.{ℕ, _+_, _*_, _/_, _≤_, _<_}
 use mathlib.Core.Path.{_≡_, refl, sym, ap, subst, _∙_}
-use mathlib.Core.Bool.{Bool, true, false, _&&_}
+use mathlib.Core.Bool.{Bool, true, false, _&&_, _||_}
 use mathlib.Core.List.{List, [], _∷_, _++_}
 use native.Mathlib.Omega.{arith}
-use borrow.Author.Tests.{eqb-true, eqb-false, le-leb}
-use lib.Dec.{T, eqb, leb}
+use borrow.Author.Tests.{eqb-true, eqb-false, lt-ltb, le-ltb, le-leb}
+use lib.Dec.{T, eqb, ltb, leb}
 use lib.ListN.{length}
 use Rattle.bitvec.proofs.Base.{by-le}
 use Rattle.bitvec.proofs.Below.{allBelow, at, left, right}
@@ -14,6 +14,7 @@ use Rattle.btor2.specs.declared.NodeRef.{NodeRef}
 use Rattle.btor2.specs.Op.{Op, const, read, write, bin, uext, ite, eq, and, or, not, state, stateInit, next, input, bad, unknown}
 use Rattle.btor2_list.specs.Record.{stride}
 use Rattle.btor2_list.specs.View.{view}
+use Rattle.builder.specs.declared.Tally.{Tally}
 use Rattle.instruction_class.specs.declared.Class.{Class}
 use Rattle.instruction_class.specs.declared.Class.the-variants.{Plain, Access, Addition, Branch, Jump, Indirect, Call}
 use Rattle.instruction_class.specs.Class.{class, plainCount}
@@ -23,9 +24,10 @@ use Rattle.riscv.specs.Kind.{Kind, Ecall, kindAt, number}
 use Rattle.riscv.proofs.Numbered.{kind-back, kind-past}
 use Rattle.text.specs.BadName.{badName}
 use Rattle.text.proofs.Laws.{bad-name-length}
+use Rattle.lowering_refusals.specs.declared.Counts.{Counts}
 use Rattle.lowering_refusals.specs.declared.Room.{Room}
 use Rattle.lowering_refusals.specs.declared.State.{State}
-use Rattle.lowering_refusals.specs.Refusal.{needsOf, indirectNeeds, linesAndEdges, refusalOf}
+use Rattle.lowering_refusals.specs.Refusal.{needsOf, indirectNeeds, linesAndEdges, roomOut, refusalOf}
 use Rattle.lowering_lines.specs.Lines.{nameFor}
 use Rattle.lowering.specs.Lowering.{Lent, Answer, programOf, countsAfter, settled, roomIn, refused, loweringGiven, lowering}
 use Rattle.lowering_laws.specs.Lines.{linesOf, behind, numbered}
@@ -59,6 +61,23 @@ small i pc = small-of (kindAt (i .kind)) (eqb (i .imm) 0) (eqb (i .rd) 0) pc (cl
 
 pub lines-needed : (i : Instruction) (pc : ℕ) → needs i pc .lines ≡ growth i
 lines-needed i pc = needs-lines (kindAt (i .kind)) (eqb (i .imm) 0) (eqb (i .rd) 0) pc (class (kindAt (i .kind))) (eqb (i .rs1) 0)
+
+-- ---- refusal 8
+
+or-second : (a b c : Bool) → b ≡ true → (a || (b || c)) ≡ true
+or-second true b c e = refl
+or-second false b c e = rw e
+
+module _ (room : Room) (t : Tally) (c : Counts) (n : Room) where
+  pub no-line-free : room .lines < t .lines + n .lines → roomOut room t c n ≡ true
+  unfolding roomOut
+  no-line-free h = or-second (ltb 1048576 (t .lines + n .lines)) (ltb (room .lines) (t .lines + n .lines)) _ (lt-ltb (room .lines) (t .lines + n .lines) h)
+
+  pub all-free : t .lines + n .lines ≤ 1048576 → t .lines + n .lines ≤ room .lines → c .names + n .names ≤ room .names → c .edges + n .edges ≤ room .edges
+      → c .dispatches + n .dispatches ≤ room .dispatches → c .bads + n .bads ≤ room .bads → roomOut room t c n ≡ false
+  unfolding roomOut
+  all-free most lines names edges dispatches bads =
+      rw (le-ltb 1048576 (t .lines + n .lines) most, le-ltb (room .lines) (t .lines + n .lines) lines, le-ltb (room .names) (c .names + n .names) names, le-ltb (room .edges) (c .edges + n .edges) edges, le-ltb (room .dispatches) (c .dispatches + n .dispatches) dispatches, le-ltb (room .bads) (c .bads + n .bads) bads)
 
 -- ---- the lines of an instruction have one row each, and a name of theirs is no longer than the longest
 

@@ -1,7 +1,6 @@
 -- What every state of the listing keeps, and that the lines alone decide about refusal 8. Assumes nothing.
 use Prim.Native.Nat.{ℕ, _+_, _*_, _/_, _≤_}
 use mathlib.Core.Path.{_≡_, refl, ap, _∙_}
-use mathlib.Core.Bool.{Bool, true, false, _||_}
 use mathlib.Core.List.{List, [], _∷_, _++_}
 use native.Mathlib.Omega.{arith}
 use borrow.Author.Tests.{lt-ltb, le-ltb}
@@ -13,17 +12,17 @@ use Rattle.btor2_list.specs.Record.{stride}
 use Rattle.listing_line.specs.declared.Parsed.{Parsed}
 use Rattle.listing_line.specs.declared.Parsed.the-variants.{Instruction as Instr, Malformed}
 use Rattle.listing_line.specs.Line.{parseLine}
-use Rattle.listing_start.specs.Start.{names, joined, named, states, startOps, records, startWords, startIn, startState}
-use Rattle.listing_step.specs.Step.{Step, emptied, taken, step}
+use Rattle.listing_start.specs.Start.{startNames, concat, startName, namedStates, startOps, records, startWords, startIn, startState}
+use Rattle.listing_step.specs.Step.{Step, emptied, parsedStep, step}
 use Rattle.riscv.specs.declared.Instruction.{Instruction}
 use Rattle.lowering_refusals.specs.declared.State.{State}
 use Rattle.lowering_refusals.specs.Refusal.{roomOf, roomOut}
 use Rattle.lowering.specs.Lowering.{Lent, Answer, countsAfter, roomIn, refused, lowering}
 use Rattle.lowering_laws.specs.Accepted.{needs}
-use Rattle.listing_bytes.specs.Storage.{mostLines, longestName, mostEdges, mostDispatches, edgeWords, dispatchWords, startLent}
+use Rattle.listing_bytes.specs.Storage.{mostLines, longestName, mostEdges, mostDispatches, edgeStride, dispatchStride, startLent}
 use Rattle.listing_bytes.specs.Listing.{steps, reached}
 use Rattle.listing_bytes.specs.Laws.{LinesDecide}
-use Rattle.listing_bytes.proofs.Core.{Small, small, Grown, OneCall, stays, grows, one-call}
+use Rattle.listing_bytes.proofs.Core.{Small, small, no-line-free, all-free, Grown, OneCall, stays, grows, one-call}
 
 -- ---- what every state keeps
 
@@ -31,8 +30,8 @@ pub record Kept (l : Lent) (st : State) : Type 0 where
   -- what is lent keeps its lengths
   pub list : length (l .list) ≡ mostLines * stride
   pub names : length (l .names) ≡ mostLines * longestName
-  pub edges : length (l .edges) ≡ mostEdges * edgeWords
-  pub dispatches : length (l .dispatches) ≡ mostDispatches * dispatchWords
+  pub edges : length (l .edges) ≡ mostEdges * edgeStride
+  pub dispatches : length (l .dispatches) ≡ mostDispatches * dispatchStride
   pub bads : length (l .bads) ≡ mostLines
   -- each bad is a line, and has at most the longest name
   pub lines : st .tally .lines ≤ mostLines
@@ -42,7 +41,7 @@ pub record Kept (l : Lent) (st : State) : Type 0 where
 -- ---- the start
 
 whole : length startWords ≡ 156
-unfolding names joined named states startOps records startWords
+unfolding startNames concat startName namedStates startOps records startWords
 whole = refl
 
 start-length : (ws : List ℕ) → 156 ≤ length ws → length (startIn ws) ≡ length ws
@@ -57,8 +56,8 @@ unfolding startLent startState
 start-kept = record {
   list = let n = zeros (mostLines * stride) in start-length (replicate (mostLines * stride) 0) (omega (arith, n)) ∙ n;
   names = zeros (mostLines * longestName);
-  edges = zeros (mostEdges * edgeWords);
-  dispatches = zeros (mostDispatches * dispatchWords);
+  edges = zeros (mostEdges * edgeStride);
+  dispatches = zeros (mostDispatches * dispatchStride);
   bads = zeros mostLines;
   lines = omega arith;
   badLines = omega arith;
@@ -97,7 +96,7 @@ call-kept l st i pc {a} k (grows g) =
       nameBytes = rw c (omega (arith, k .nameBytes, s .nameBytes));
     }
 
-taken-kept : (number : ℕ) (l : Lent) (st : State) (p : Parsed) → Kept l st → Kept (taken number l st p .lent) (taken number l st p .state)
+taken-kept : (number : ℕ) (l : Lent) (st : State) (p : Parsed) → Kept l st → Kept (parsedStep number l st p .lent) (parsedStep number l st p .state)
 taken-kept number l st Malformed k = k
 taken-kept number l st (Instr address kind rd rs1 rs2 imm) k = call-kept l st _ address k (one-call l st _ address _)
 
@@ -116,23 +115,19 @@ reached-kept lines = steps-kept 1 lines startLent startState start-kept
 
 -- ---- refusal 8
 
-second : (a b c : Bool) → b ≡ true → (a || (b || c)) ≡ true
-second true b c e = refl
-second false b c e = rw e
-
 module _ (l : Lent) (st : State) (k : Kept l st) (i : Instruction) (pc : ℕ) where
   lines-decide-here : let e = emptied st in
       roomOut (roomIn l) (e .tally) (e .counts) (needs i pc) ≡ ltb mostLines (e .tally .lines + needs i pc .lines)
-  unfolding roomOut roomOf emptied
+  unfolding roomOf emptied
   lines-decide-here =
       let n = needs i pc in
       let s = small i pc in
-      let q : length (l .list) / stride ≡ mostLines = omega (arith, k .list) in
+      let e = emptied st in
       by-le (st .tally .lines + n .lines) mostLines
       (λ h.
-      rw (le-ltb 1048576 (st .tally .lines + n .lines) (omega arith), le-ltb (length (l .list) / stride) (st .tally .lines + n .lines) (omega arith), le-ltb (length (l .names)) (st .counts .names + n .names) (omega (arith, k .names, k .nameBytes, k .badLines, s .nameBytes, s .badLines)), le-ltb (length (l .edges) / 4) (0 + n .edges) (omega (arith, k .edges, s .edges)), le-ltb (length (l .dispatches) / 2) (0 + n .dispatches) (omega (arith, k .dispatches, s .dispatches)), le-ltb (length (l .bads)) (st .counts .bads + n .bads) (omega (arith, k .bads, k .badLines, s .badLines)), le-ltb mostLines (st .tally .lines + n .lines) h))
-      (λ h.
-      rw (lt-ltb mostLines (st .tally .lines + n .lines) h) (second (ltb 1048576 (st .tally .lines + n .lines)) (ltb (length (l .list) / stride) (st .tally .lines + n .lines)) _ (lt-ltb (length (l .list) / stride) (st .tally .lines + n .lines) (omega arith))))
+      rw (le-ltb mostLines (st .tally .lines + n .lines) h)
+      (all-free (roomIn l) (e .tally) (e .counts) n (omega arith) (omega (arith, k .list)) (omega (arith, k .names, k .nameBytes, k .badLines, s .nameBytes, s .badLines)) (omega (arith, k .edges, s .edges)) (omega (arith, k .dispatches, s .dispatches)) (omega (arith, k .bads, k .badLines, s .badLines))))
+      (λ h. rw (lt-ltb mostLines (st .tally .lines + n .lines) h) (no-line-free (roomIn l) (e .tally) (e .counts) n (omega (arith, k .list))))
 
 pub lines-decide : LinesDecide
 lines-decide before i address = lines-decide-here (reached before .lent) (reached before .state) (reached-kept before) i address

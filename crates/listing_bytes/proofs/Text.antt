@@ -8,7 +8,7 @@ use native.Mathlib.Omega.{arith}
 use borrow.Author.Tests.{leb-true, ne-eqb, eq-eqb}
 use lib.Dec.{eqb, ltb, leb}
 use lib.ListN.{length, getD, take, drop, length-append, length-take}
-use lib.Seq.{drop-at}
+use lib.Seq.{drop-at, take-append-seam}
 use Rattle.btor2.specs.declared.Name.{Name}
 use Rattle.btor2.specs.Sort.{sortNumber, width}
 use Rattle.btor2.specs.Op.{Bin, add, sub, mul, udiv, sdiv, urem, sll, srl, ult, Op, const, read, write, bin, uext, ite, eq, and, or, not, state, stateInit, next, input, bad, unknown, mapOp, binSort}
@@ -21,20 +21,20 @@ use Rattle.node_text.specs.Words.{ascii}
 use Rattle.node_text.specs.Row.{nameText, numbersText, written}
 use Rattle.record_text.specs.Line.{binWord, lineText, printedName}
 use Rattle.text.specs.Numeral.{decimalText}
-use Rattle.text.proofs.Laws.{numeral-length}
+use Rattle.text.proofs.Laws.{numeral-length, put-is}
 use Rattle.listing_line.specs.declared.Parsed.{Parsed}
 use Rattle.listing_line.specs.declared.Parsed.the-variants.{Instruction as Instr, Malformed}
 use Rattle.listing_line.specs.Line.{parseLine}
 use Rattle.listing_start.specs.Start.{hostArea}
-use Rattle.listing_text.specs.Remarks.{originWord, conditionText, edgeText, dispatchText, refusedText, edgeAt, edgesText, dispatchAt, dispatchesText}
-use Rattle.listing_step.specs.Step.{emptied, appendedText, answerText, taken, step}
+use Rattle.listing_text.specs.Remarks.{originWord, conditionText, edgeText, dispatchText, refusedText, edgeTextAt, edgesText, dispatchTextAt, dispatchesText}
+use Rattle.listing_step.specs.Step.{emptied, appendedText, answerText, parsedStep, step}
 use Rattle.riscv.specs.declared.Instruction.{Instruction}
 use Rattle.lowering_refusals.specs.declared.State.{State}
 use Rattle.lowering.specs.Lowering.{Lent, Answer, countsAfter, lowering}
 use Rattle.lowering_laws.specs.Lines.{numbered}
 use Rattle.lowering_laws.specs.Accepted.{needs}
 use Rattle.listing_bytes.specs.Storage.{longestName, outRoom}
-use Rattle.listing_bytes.specs.Laws.{TextFits}
+use Rattle.listing_bytes.specs.Laws.{TextFits, TextWritten}
 use Rattle.listing_bytes.proofs.Core.{small, oneRow, oneRowEach, Grown, OneCall, stays, grows, one-call}
 
 either : (b : Bool) (s t : List ℕ) (k : ℕ) → length s ≤ k → length t ≤ k → length (cond b s t) ≤ k
@@ -130,8 +130,8 @@ origin-most origin = go (eqb origin 0) (eqb origin 1)
 condition-most : (ns : List Node) (condition : ℕ) → length (conditionText ns condition) ≤ 20
 condition-most ns condition = either (eqb condition _) (ascii "-") _ 20 (omega arith) (numeral-length 10 20 _)
 
-edge-most : (ns : List Node) (es : List ℕ) (n : ℕ) → length (edgeAt ns es n) ≤ 81
-unfolding edgeAt edgeText
+edge-most : (ns : List Node) (es : List ℕ) (n : ℕ) → length (edgeTextAt ns es n) ≤ 81
+unfolding edgeTextAt edgeText
 edge-most ns es n =
     either (ltb n (length es / 4)) _ [] 81
     (simp length-append (omega (arith, numeral-length 10 20 (getD es (n * 4) 0), numeral-length 10 20 (getD es (n * 4 + 1) 0), origin-most (getD es (n * 4 + 2) 0), condition-most ns (getD es (n * 4 + 3) 0))))
@@ -142,8 +142,8 @@ unfolding edgesText
 edges-most ns es zero = omega arith
 edges-most ns es (suc n) = simp length-append (omega (arith, edges-most ns es n, edge-most ns es n))
 
-dispatch-most : (ds : List ℕ) (n : ℕ) → length (dispatchAt ds n) ≤ 48
-unfolding dispatchAt dispatchText
+dispatch-most : (ds : List ℕ) (n : ℕ) → length (dispatchTextAt ds n) ≤ 48
+unfolding dispatchTextAt dispatchText
 dispatch-most ds n =
     either (ltb n (length ds / 2)) _ [] 48
     (simp length-append (omega (arith, numeral-length 10 20 (getD ds (n * 2) 0), numeral-length 10 20 (getD ds (n * 2 + 1) 0))))
@@ -190,9 +190,15 @@ module _ (l : Lent) (st : State) (i : Instruction) (pc : ℕ) (none : (st .count
   answer-most number (stays n h) = rw (ne-eqb n 0 h) (omega (arith, refused-most number n))
   answer-most number (grows g) = rw (eq-eqb _ 0 (g .refusal)) (appended-most g)
 
-taken-most : (number : ℕ) (l : Lent) (st : State) → (st .counts .edges ≡ 0) × (st .counts .dispatches ≡ 0) → (p : Parsed) → length (taken number l st p .text) ≤ outRoom
+taken-most : (number : ℕ) (l : Lent) (st : State) → (st .counts .edges ≡ 0) × (st .counts .dispatches ≡ 0) → (p : Parsed) → length (parsedStep number l st p .text) ≤ outRoom
 taken-most number l st none Malformed = omega (arith, refused-most number 0)
 taken-most number l st none (Instr address kind rd rs1 rs2 imm) = answer-most l st _ address none number (one-call l st _ address _)
+
+pub text-written : TextWritten
+text-written out text out′ n room fits u =
+    let end : 0 + length text ≡ length text = omega arith in
+    let told : n ≡ length text = omega (arith, u .next) in
+    rw (put-is u (omega arith), told) (take-append-seam text (drop (0 + length text) out))
 
 pub text-fits : TextFits
 unfolding step emptied

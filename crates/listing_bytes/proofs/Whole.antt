@@ -11,13 +11,14 @@ use lib.Dec.{eqb, leb}
 use lib.ListN.{length, take, set, replicate, length-append, length-take, length-set, length-replicate}
 use lib.Seq.{take-nil, take-all, take-append-le, take-suc-set, set-out}
 use Rattle.bitvec.proofs.Base.{by-le}
+use Rattle.listing_input.specs.Gather.{newline}
 use Rattle.listing_line.specs.Line.{_>>_, parseLine}
-use Rattle.listing_start.specs.Start.{joined, startState}
+use Rattle.listing_start.specs.Start.{concat, startState}
 use Rattle.listing_step.specs.Step.{Step, step}
 use Rattle.lowering.specs.Lowering.{Lent}
 use Rattle.lowering_refusals.specs.declared.State.{State}
 use Rattle.listing_bytes.specs.Storage.{startLent, lineRoom}
-use Rattle.listing_bytes.specs.Listing.{newline, lastLine, linesAfter, steps, reached, listing}
+use Rattle.listing_bytes.specs.Listing.{lastLine, linesFrom, steps, reached, listing}
 use Rattle.listing_bytes.specs.Pieces.{Progress, progress, reading, Told, told, andThen, lineEnded, byteHeld, takeByte, takeBytes, takePieces, inputEnded, start}
 use Rattle.listing_bytes.specs.Laws.{AnyPieces}
 use Rattle.listing_bytes.proofs.Bytes.{two-pieces}
@@ -25,12 +26,12 @@ use Rattle.listing_bytes.proofs.Room.{zeros}
 
 -- ---- pieces
 
-pieces-joined : (pieces : List (List ℕ)) (p : Progress) → takePieces pieces p ≡ takeBytes (joined pieces) p
-unfolding takePieces takeBytes joined
+pieces-joined : (pieces : List (List ℕ)) (p : Progress) → takePieces pieces p ≡ takeBytes (concat pieces) p
+unfolding takePieces takeBytes concat
 pieces-joined [] p = refl
 pieces-joined (piece ∷ pieces) p =
     ap (λ (u : Told). told (u .progress) (takeBytes piece p .text ++ u .text)) (pieces-joined pieces (takeBytes piece p .progress))
-    ∙ sym (two-pieces piece (joined pieces) p)
+    ∙ sym (two-pieces piece (concat pieces) p)
 
 -- ---- a line that is longer than what is kept of it is malformed like it
 
@@ -96,8 +97,8 @@ end-is p (b ∷ line) number k =
     rw some (ap (λ (s : Step). s .text) (ended-is p (b ∷ line) number k) ∙ sym (append-nil _))
 
 rest-is : (bs : List ℕ) (p : Progress) (line : List ℕ) (number : ℕ) → length line + length bs < 2 ^ 64 - 1 → number + length bs < 2 ^ 64 → Keeps p line number
-    → writtenFrom p bs ≡ steps number (linesAfter line bs) (p .lent) (p .reading .state) .text
-unfolding takeBytes takeByte linesAfter lineEnded byteHeld steps
+    → writtenFrom p bs ≡ steps number (linesFrom line bs) (p .lent) (p .reading .state) .text
+unfolding takeBytes takeByte linesFrom lineEnded byteHeld steps
 rest-is [] p line number h n k = end-is p line number k
 rest-is (b ∷ bs) p line number h n k =
     let next = lineEnded p .progress in
@@ -106,19 +107,19 @@ rest-is (b ∷ bs) p line number h n k =
     (rest-is bs (byteHeld b p) (line ++ (b ∷ [])) number (omega (arith, length-append line (b ∷ []))) (omega arith) (byte-more b p line number (omega arith) k))
   where
     go : (t : Bool) → eqb b newline ≡ t
-        → writtenFrom (lineEnded p .progress) bs ≡ steps (number + 1) (linesAfter [] bs) (lineEnded p .progress .lent) (lineEnded p .progress .reading .state) .text
-        → writtenFrom (byteHeld b p) bs ≡ steps number (linesAfter (line ++ (b ∷ [])) bs) (byteHeld b p .lent) (byteHeld b p .reading .state) .text
+        → writtenFrom (lineEnded p .progress) bs ≡ steps (number + 1) (linesFrom [] bs) (lineEnded p .progress .lent) (lineEnded p .progress .reading .state) .text
+        → writtenFrom (byteHeld b p) bs ≡ steps number (linesFrom (line ++ (b ∷ [])) bs) (byteHeld b p .lent) (byteHeld b p .reading .state) .text
         → andThen (andThen (cond t (lineEnded p) (told (byteHeld b p) [])) (takeBytes bs)) inputEnded .text
-        ≡ steps number (cond t (line ∷ linesAfter [] bs) (linesAfter (line ++ (b ∷ [])) bs)) (p .lent) (p .reading .state) .text
+        ≡ steps number (cond t (line ∷ linesFrom [] bs) (linesFrom (line ++ (b ∷ [])) bs)) (p .lent) (p .reading .state) .text
     go true e ended more =
         let s = step (p .reading .number) (take (p .reading .held) (p .line)) (p .lent) (p .reading .state) in
         append-assoc (s .text) _ _ ∙ ap (λ (x : List ℕ). s .text ++ x) ended
-        ∙ ap (λ (u : Step). u .text ++ steps (number + 1) (linesAfter [] bs) (u .lent) (u .state) .text) (ended-is p line number k)
+        ∙ ap (λ (u : Step). u .text ++ steps (number + 1) (linesFrom [] bs) (u .lent) (u .state) .text) (ended-is p line number k)
     go false e ended more = more
 
 pub any-pieces : AnyPieces
 unfolding reached start
 any-pieces pieces h =
     ap (λ (t : Told). andThen t inputEnded .text) (pieces-joined pieces start)
-    ∙ rest-is (joined pieces) start [] 1 (omega arith) (omega arith)
+    ∙ rest-is (concat pieces) start [] 1 (omega arith) (omega arith)
     (record { room = omega (arith, zeros lineRoom); held = refl; bytes = sym (take-nil lineRoom); counted = refl })

@@ -3,6 +3,7 @@ use Prim.Native.Nat.{ℕ, _+_}
 use mathlib.Core.Bool.{cond}
 use mathlib.Core.List.{List, [], _∷_, _++_}
 use lib.Dec.{eqb}
+use Rattle.listing_input.specs.Gather.{newline}
 use Rattle.listing_start.specs.Start.{startState}
 use Rattle.listing_step.specs.Step.{Step, step}
 use Rattle.lowering.specs.Lowering.{Lent}
@@ -11,22 +12,18 @@ use Rattle.listing_bytes.specs.Storage.{startLent}
 
 -- ---- the lines of an input
 
--- the byte that ends a line
-abbrev pub newline : ℕ
-newline = 10
-
 -- "the last newline may be missing"; nothing follows the last newline
 abbrev pub lastLine : List ℕ → List (List ℕ)
 lastLine [] = []
 lastLine (b ∷ bs) = (b ∷ bs) ∷ []
 
 -- the lines of what is left of an input, where these bytes of a line have been read
-unfoldable pub linesAfter : List ℕ → List ℕ → List (List ℕ)
-linesAfter line [] = lastLine line
-linesAfter line (b ∷ bs) = cond (eqb b newline) (line ∷ linesAfter [] bs) (linesAfter (line ++ (b ∷ [])) bs)
+unfoldable pub linesFrom : List ℕ → List ℕ → List (List ℕ)
+linesFrom line [] = lastLine line
+linesFrom line (b ∷ bs) = cond (eqb b newline) (line ∷ linesFrom [] bs) (linesFrom (line ++ (b ∷ [])) bs)
 
 abbrev pub inputLines : List ℕ → List (List ℕ)
-inputLines input = linesAfter [] input
+inputLines input = linesFrom [] input
 
 -- ---- one line after the other
 

@@ -4,14 +4,13 @@ use mathlib.Core.Bool.{cond}
 use mathlib.Core.List.{List, [], _∷_, _++_}
 use lib.Dec.{eqb}
 use lib.ListN.{take, drop, set, replicate}
-use Rattle.listing_input.specs.Gather.{lineNext}
+use Rattle.listing_input.specs.Gather.{newline, lineNext}
 use Rattle.listing_start.specs.Start.{startState}
 use Rattle.listing_step.specs.Step.{step}
 use Rattle.lowering.specs.Lowering.{Lent}
 use Rattle.lowering_refusals.specs.declared.State.{State}
 use Rattle.listing_bytes.specs.declared.Reading.{Reading}
 use Rattle.listing_bytes.specs.Storage.{startLent, lineRoom}
-use Rattle.listing_bytes.specs.Listing.{newline}
 
 -- what passes on: what is lent, the bytes that are kept of the line that is being read among it, and the reading
 pub record Progress : Type 0 where

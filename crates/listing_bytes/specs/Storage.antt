@@ -21,17 +21,17 @@ abbrev pub mostDispatches : ℕ
 mostDispatches = 1
 
 -- the words of an edge (to, from, origin, condition) and of a dispatch (register, from)
-abbrev pub edgeWords : ℕ
-edgeWords = 4
+abbrev pub edgeStride : ℕ
+edgeStride = 4
 
-abbrev pub dispatchWords : ℕ
-dispatchWords = 2
+abbrev pub dispatchStride : ℕ
+dispatchStride = 2
 
 -- every line may be a bad one with the longest name
 unfoldable pub startLent : Lent
 startLent =
-    lent (startIn (replicate (mostLines * stride) 0)) (replicate (mostLines * longestName) 0) (replicate (mostEdges * edgeWords) 0)
-    (replicate (mostDispatches * dispatchWords) 0) (replicate mostLines 0)
+    lent (startIn (replicate (mostLines * stride) 0)) (replicate (mostLines * longestName) 0) (replicate (mostEdges * edgeStride) 0)
+    (replicate (mostDispatches * dispatchStride) 0) (replicate mostLines 0)
 
 -- "over 256 bytes": of a line one byte more is kept, so that a longer one is seen to be longer
 abbrev pub lineRoom : ℕ

@@ -14,16 +14,20 @@ ghost use Rattle.listing_bytes.specs.Storage.{outRoom};
 ghost use Rattle.listing_bytes.specs.Pieces.{progress, takeBytes, start};
 ghost use Rattle.listing_bytes.specs.Reaches.{Reaches};
 
-// 1,024 lines; a bad line's name has at most 33 bytes, and an instruction at most two edges and one dispatch.
+// Every line may be a bad one, with the longest name. An instruction has at most two edges and one dispatch.
 const LINES: usize = 1024;
+
+const LONGEST_NAME: usize = 33;
 
 const LIST: usize = LINES * btor2_list::STRIDE;
 
-const NAMES: usize = LINES * 33;
+const NAMES: usize = LINES * LONGEST_NAME;
 
 const EDGES: usize = 2 * edges::EDGE;
 
 const DISPATCHES: usize = dispatches::DISPATCH;
+
+const BADS: usize = LINES;
 
 // One byte more than the longest line, so that a longer one is seen to be longer.
 const LINE: usize = 257;
@@ -47,7 +51,7 @@ pub fn list_instructions() {
     let mut names = [0u8; NAMES];
     let mut edges = [0u64; EDGES];
     let mut dispatches = [0u64; DISPATCHES];
-    let mut bads = [0u64; LINES];
+    let mut bads = [0u64; BADS];
     let mut line = [0u8; LINE];
     let mut out = [0u8; OUT];
     listing_start::put_start(&mut list);
