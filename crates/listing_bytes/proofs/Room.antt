@@ -66,7 +66,7 @@ start-kept = record {
 
 -- ---- a line
 
-emptied-kept : (l : Lent) (st : State) → Kept l st → Kept l (emptied st)
+pub emptied-kept : (l : Lent) (st : State) → Kept l st → Kept l (emptied st)
 unfolding emptied
 emptied-kept l st k = record {
   list = k .list;
@@ -79,7 +79,7 @@ emptied-kept l st k = record {
   nameBytes = k .nameBytes;
 }
 
-call-kept : (l : Lent) (st : State) (i : Instruction) (pc : ℕ) {a : Answer} → Kept l st → OneCall l st i pc a → Kept (a .lent) (a .lowered .state)
+pub call-kept : (l : Lent) (st : State) (i : Instruction) (pc : ℕ) {a : Answer} → Kept l st → OneCall l st i pc a → Kept (a .lent) (a .lowered .state)
 unfolding countsAfter
 call-kept l st i pc k (stays n h) = k
 call-kept l st i pc {a} k (grows g) =
@@ -111,7 +111,7 @@ steps-kept number (line ∷ lines) l st k = steps-kept (number + 1) lines _ _ (s
 
 pub reached-kept : (lines : List (List ℕ)) → Kept (reached lines .lent) (reached lines .state)
 unfolding reached
-reached-kept lines = steps-kept 1 lines startLent startState start-kept
+reached-kept lines = steps-kept _ lines startLent startState start-kept
 
 -- ---- refusal 8
 

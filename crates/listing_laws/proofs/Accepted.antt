@@ -66,10 +66,10 @@ module _ (words : List ℕ) (h : 156 ≤ length words) where
   put-length : length (startIn words) ≡ length words
   put-length = rw (put, length-append startWords (drop 156 words), whole, length-drop 156 words) (omega arith)
 
-  lines-put : view (startIn words) 39 ≡ numbered 20 startOps
+  pub lines-put : view (startIn words) 39 ≡ numbered 20 startOps
   lines-put = rw put (view-front startWords (drop 156 words) 39 (rw whole (lit≤ tt)) ∙ lines)
 
-  roles-put : not (rolesFit (startIn words) 39 0 startRoles) ≡ false
+  pub roles-put : not (rolesFit (startIn words) 39 0 startRoles) ≡ false
   roles-put = rw put (ap not (roles-front startWords (drop 156 words) 39 (rw whole (lit≤ tt)) 0 startRoles) ∙ roles)
 
 pub start-lines : StartLines
@@ -106,7 +106,7 @@ pub start-zero : StartZero
 unfolding registerNodeValue operators startState startRoles fromOn
 start-zero words names env h = ap (λ (x : List Node). value env (ops x) 2 .num) (lines-put words h) ∙ zero-line env
 
-given : length (startState .roles) ≡ 79
+pub given : length (startState .roles) ≡ 79
 unfolding startState startRoles fromOn
 given = refl
 
