@@ -6,7 +6,7 @@ use listing_text::SPACE;
 ghost use Rattle.line_text.specs.Line.{nodes};
 ghost use Rattle.node_text.specs.Words.{ascii};
 ghost use Rattle.text.specs.Put.{Put};
-ghost use Rattle.listing_text.specs.Remarks.{originWord, conditionText, edgeText, edgeAt, edgesText};
+ghost use Rattle.listing_text.specs.Remarks.{originWord, conditionText, edgeText, edgeTextAt, edgesText};
 
 fn put_origin(out: &mut [u8], at: usize, origin: u64) -> usize
     ensures { λ r. ⌜ Put (now (out .entry)) at (ascii (originWord origin)) (now (out .exit)) r ⌝ }
@@ -61,7 +61,7 @@ fn put_edge_at(
     records: &[u64],
     k: usize,
 ) -> usize
-    ensures { λ r. ⌜ Put (now (out .entry)) at (edgeAt (nodes (now (list .entry)) lines) (now (records .entry)) k) (now (out .exit)) r ⌝ }
+    ensures { λ r. ⌜ Put (now (out .entry)) at (edgeTextAt (nodes (now (list .entry)) lines) (now (records .entry)) k) (now (out .exit)) r ⌝ }
 {
     if records.len() / edges::EDGE <= k {
         return at;

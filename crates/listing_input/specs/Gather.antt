@@ -6,9 +6,13 @@ use lib.Dec.{ltb}
 use lib.ListN.{length, take, drop}
 use Rattle.listing_line.specs.Text.{before}
 
+-- the byte that ends a line
+abbrev pub newline : ℕ
+newline = 10
+
 -- of the bytes of a piece from a place on: how many stand before the first newline, and which
 abbrev pub lineLength : List ℕ → ℕ → ℕ
-lineLength piece from = before 10 (drop from piece)
+lineLength piece from = before newline (drop from piece)
 
 unfoldable pub lineBytes : List ℕ → ℕ → List ℕ
 lineBytes piece from = take (lineLength piece from) (drop from piece)
@@ -17,6 +21,6 @@ lineBytes piece from = take (lineLength piece from) (drop from piece)
 unfoldable pub lineEnds : List ℕ → ℕ → Bool
 lineEnds piece from = ltb (lineLength piece from) (length (drop from piece))
 
--- behind that newline, or behind the piece
+-- after that newline, or after the piece
 unfoldable pub lineNext : List ℕ → ℕ → ℕ
 lineNext piece from = cond (lineEnds piece from) (from + lineLength piece from + 1) (length piece)

@@ -13,7 +13,7 @@ pub struct Gathered {
     pub ended: bool,
 }
 
-// Puts the bytes of a piece, from a place on and up to a newline, behind the `held` bytes of a line.
+// Puts the bytes of a piece, from a place on and up to a newline, after the `held` bytes of a line.
 pub fn gather(line: &mut [u8], held: usize, piece: &[u8], from: usize) -> Gathered
     ensures bytes { λ r. ⌜ Put (now (line .entry)) held (lineBytes (now (piece .entry)) from) (now (line .exit)) (r .held) ⌝ }
     ensures next { λ r. ⌜ r .next ≡ lineNext (now (piece .entry)) from ⌝ }

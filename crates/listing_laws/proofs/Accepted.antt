@@ -23,7 +23,7 @@ use Rattle.lowering_refusals.specs.declared.Room.{Room}
 use Rattle.lowering_refusals.specs.Refusal.{roomOf}
 use Rattle.lowering_laws.specs.Lines.{numbered}
 use Rattle.start.specs.Start.{startCountsOut, startRefusal}
-use Rattle.listing_start.specs.Start.{names, joined, hostArea, named, states, startOps, records, startWords, startIn, fromOn, startRoles, startState}
+use Rattle.listing_start.specs.Start.{startNames, concat, hostArea, startName, namedStates, startOps, records, startWords, startIn, fromOn, startRoles, startState}
 use Rattle.meaning.specs.Lines.{operators}
 use Rattle.demand.specs.Demand3.{registerNodeValue}
 use Rattle.demand.proofs.Demand3.{demand-3}
@@ -33,27 +33,27 @@ use Rattle.listing_laws.proofs.Words.{view-front, roles-front}
 -- ---- computed over the start's words alone
 
 whole : length startWords ≡ 156
-unfolding names joined named states startOps records startWords
+unfolding startNames concat startName namedStates startOps records startWords
 whole = refl
 
 lines : view startWords 39 ≡ numbered 20 startOps
-unfolding names joined named states startOps records startWords view lineAt opOf numbered
+unfolding startNames concat startName namedStates startOps records startWords view lineAt opOf numbered
 lines = refl
 
 rising-nids : nidsOut 59 (taken (numbered 20 startOps)) ≡ false
-unfolding names joined named states startOps numbered taken nidsOut rising
+unfolding startNames concat startName namedStates startOps numbered taken nidsOut rising
 rising-nids = refl
 
 formed : (ours : ℕ) → unformed (length hostArea) ours (ops (numbered 20 startOps)) ≡ false
-unfolding names joined hostArea named states startOps numbered unformed some opUnformed carried
+unfolding startNames concat hostArea startName namedStates startOps numbered unformed some opUnformed carried
 formed ours = refl
 
 sorted : not (meetsSortRule (ops (numbered 20 startOps))) ≡ false
-unfolding names joined named states startOps numbered meetsSortRule judged walk judge rule isStateOp carried mapOp allRight
+unfolding startNames concat startName namedStates startOps numbered meetsSortRule judged walk judge rule isStateOp carried mapOp allRight
 sorted = refl
 
 roles : not (rolesFit startWords 39 0 startRoles) ≡ false
-unfolding names joined named states startOps records startWords lineAt opOf carried rolesFit fromOn startRoles
+unfolding startNames concat startName namedStates startOps records startWords lineAt opOf carried rolesFit fromOn startRoles
 roles = refl
 
 -- ---- in words of any length that holds them
@@ -66,10 +66,10 @@ module _ (words : List ℕ) (h : 156 ≤ length words) where
   put-length : length (startIn words) ≡ length words
   put-length = rw (put, length-append startWords (drop 156 words), whole, length-drop 156 words) (omega arith)
 
-  lines-put : view (startIn words) 39 ≡ numbered 20 startOps
+  pub lines-put : view (startIn words) 39 ≡ numbered 20 startOps
   lines-put = rw put (view-front startWords (drop 156 words) 39 (rw whole (lit≤ tt)) ∙ lines)
 
-  roles-put : not (rolesFit (startIn words) 39 0 startRoles) ≡ false
+  pub roles-put : not (rolesFit (startIn words) 39 0 startRoles) ≡ false
   roles-put = rw put (ap not (roles-front startWords (drop 156 words) 39 (rw whole (lit≤ tt)) 0 startRoles) ∙ roles)
 
 pub start-lines : StartLines
@@ -99,14 +99,14 @@ start-accepted words room h g =
 -- ---- demand 3
 
 zero-line : (env : Env) → value env (ops (numbered 20 startOps)) 2 .num ≡ 0
-unfolding names joined named states startOps numbered walk mapOp evalOp values value
+unfolding startNames concat startName namedStates startOps numbered walk mapOp evalOp values value
 zero-line env = refl
 
 pub start-zero : StartZero
 unfolding registerNodeValue operators startState startRoles fromOn
 start-zero words names env h = ap (λ (x : List Node). value env (ops x) 2 .num) (lines-put words h) ∙ zero-line env
 
-given : length (startState .roles) ≡ 79
+pub given : length (startState .roles) ≡ 79
 unfolding startState startRoles fromOn
 given = refl
 

@@ -4,14 +4,14 @@ use Prim.Native.String.{String}
 use mathlib.Core.Path.{_≡_, refl}
 use mathlib.Core.List.{_++_}
 use lib.ListN.{replicate}
-use Rattle.listing_line.specs.Text.{bytes, all, split, onFirst, number, decimal, onward}
-use Rattle.listing_line.specs.Kinds.{names, same, place}
-use Rattle.listing_line.specs.Line.{letters, negative, immediate, instruction, parseLine}
+use Rattle.listing_line.specs.Text.{bytes, all, split, onFirst, numberBelow, decimal, onward}
+use Rattle.listing_line.specs.Kinds.{kindNames, same, placeOf}
+use Rattle.listing_line.specs.Line.{letters, negated, immediate, instruction, parseLine}
 use Rattle.listing_line.specs.declared.Parsed.{Parsed}
 use Rattle.listing_line.specs.declared.Parsed.the-variants.{Instruction, Malformed}
 
 line : String → Parsed
-unfolding all split onFirst number decimal onward names same place letters negative immediate instruction parseLine
+unfolding all split onFirst numberBelow decimal onward kindNames same placeOf letters negated immediate instruction parseLine
 line t = parseLine (bytes t)
 
 lui : line "65536 Lui 5 0 0 1" ≡ Instruction 65536 0 5 0 0 1

@@ -11,8 +11,8 @@ use lib.Pow.{pow-add, pow-mono}
 use lib.ListN.{length, getD, take, drop, drop-of-length-le, length-drop, List·getD-eq-default}
 use lib.Seq.{drop-cons, drop-drop, getD-drop, take-all}
 use borrow.Author.Tests.{eq-eqb, ne-eqb, eqb-true, eqb-false, lt-ltb, le-ltb, lt-leb, le-leb}
-use Rattle.listing_line.specs.Text.{all, onFirst, split, before, digit, decimal, onward, number}
-use Rattle.listing_line.specs.Line.{letter, letters, negative, immediate}
+use Rattle.listing_line.specs.Text.{all, onFirst, split, before, digit, decimal, onward, numberBelow}
+use Rattle.listing_line.specs.Line.{letter, letters, negated, immediate}
 use Rattle.listing_line.specs.Inside.{packed}
 use Rattle.listing_line.specs.declared.Number.the-variants.{Value, NotOne}
 
@@ -187,8 +187,8 @@ digit-high b h = rw (lt-leb b 57 h, and-false (leb 48 b))
 pub digit-yes : (b : ℕ) → 48 ≤ b → b ≤ 57 → digit b ≡ true
 digit-yes b h k = rw (le-leb 48 b h, le-leb b 57 k)
 
-pub no-number : (limit : ℕ) (s : List ℕ) → length s ≡ 0 → NotOne ≡ number limit s
-unfolding number decimal
+pub no-number : (limit : ℕ) (s : List ℕ) → length s ≡ 0 → NotOne ≡ numberBelow limit s
+unfolding numberBelow decimal
 no-number limit [] h = refl
 no-number limit (b ∷ bs) h = absurd (suc-ne-zero (length bs) h)
 
@@ -211,22 +211,22 @@ decimal-no (b ∷ []) e = sym (and-true (digit b)) ∙ e
 decimal-no (b ∷ c ∷ bs) e = rw e (and-false (not (eqb b 48)))
 
 -- no decimal number below the limit: no digits, a 0 in front, or too large
-pub not-digits : (limit : ℕ) (s : List ℕ) → all digit s ≡ false → NotOne ≡ number limit s
-unfolding number
+pub not-digits : (limit : ℕ) (s : List ℕ) → all digit s ≡ false → NotOne ≡ numberBelow limit s
+unfolding numberBelow
 not-digits limit s e = rw (decimal-no s e)
 
-pub lead-zero : (limit : ℕ) (s : List ℕ) → 1 < length s → getD s 0 0 ≡ 48 → NotOne ≡ number limit s
-unfolding number decimal
+pub lead-zero : (limit : ℕ) (s : List ℕ) → 1 < length s → getD s 0 0 ≡ 48 → NotOne ≡ numberBelow limit s
+unfolding numberBelow decimal
 lead-zero limit [] h e = refl
 lead-zero limit (b ∷ []) h e = absurd (not-suc-le-zero (le-of-suc-le-suc h))
 lead-zero limit (b ∷ c ∷ bs) h e = rw (eq-eqb b 48 e)
 
-pub too-large : (limit : ℕ) (s : List ℕ) → limit ≤ onward 0 s → NotOne ≡ number limit s
-unfolding number
+pub too-large : (limit : ℕ) (s : List ℕ) → limit ≤ onward 0 s → NotOne ≡ numberBelow limit s
+unfolding numberBelow
 too-large limit s h = rw (le-ltb (onward 0 s) limit h, and-false (decimal s))
 
-pub is-number : (limit n : ℕ) (s : List ℕ) → decimal s ≡ true → n ≡ onward 0 s → n < limit → Value n ≡ number limit s
-unfolding number
+pub is-number : (limit n : ℕ) (s : List ℕ) → decimal s ≡ true → n ≡ onward 0 s → n < limit → Value n ≡ numberBelow limit s
+unfolding numberBelow
 is-number limit n s d e h = rw (d, ← e, lt-ltb n limit h)
 
 -- ---- immediates
@@ -236,24 +236,24 @@ unfolding immediate
 imm-none [] h = refl
 imm-none (b ∷ bs) h = absurd (suc-ne-zero (length bs) h)
 
-pub imm-plain : (s : List ℕ) → (length s ≡ 0 → ⊥) → (getD s 0 0 ≡ 45 → ⊥) → number (2 ^ 31) s ≡ immediate s
+pub imm-plain : (s : List ℕ) → (length s ≡ 0 → ⊥) → (getD s 0 0 ≡ 45 → ⊥) → numberBelow (2 ^ 31) s ≡ immediate s
 unfolding immediate
 imm-plain [] h n = absurd (h refl)
 imm-plain (b ∷ bs) h n = rw (ne-eqb b 45 n)
 
-pub imm-minus : (s : List ℕ) → (length s ≡ 0 → ⊥) → getD s 0 0 ≡ 45 → negative (number (2 ^ 31 + 1) (take (length s - 1) (drop 1 s))) ≡ immediate s
+pub imm-minus : (s : List ℕ) → (length s ≡ 0 → ⊥) → getD s 0 0 ≡ 45 → negated (numberBelow (2 ^ 31 + 1) (take (length s - 1) (drop 1 s))) ≡ immediate s
 unfolding immediate
 imm-minus [] h e = absurd (h refl)
 imm-minus (b ∷ bs) h e =
     rw (eq-eqb b 45 e)
-    (ap (λ (l : List ℕ). negative (number (2 ^ 31 + 1) l)) (take-all (suc (length bs) - 1) bs (omega arith)))
+    (ap (λ (l : List ℕ). negated (numberBelow (2 ^ 31 + 1) l)) (take-all (suc (length bs) - 1) bs (omega arith)))
 
-pub negative-zero : (n : ℕ) → n ≡ 0 → NotOne ≡ negative (Value n)
-unfolding negative
+pub negative-zero : (n : ℕ) → n ≡ 0 → NotOne ≡ negated (Value n)
+unfolding negated
 negative-zero n e = rw (eq-eqb n 0 e)
 
-pub negative-some : (n : ℕ) → (n ≡ 0 → ⊥) → Value (2 ^ 64 - 1 - (n - 1)) ≡ negative (Value n)
-unfolding negative
+pub negative-some : (n : ℕ) → (n ≡ 0 → ⊥) → Value (2 ^ 64 - 1 - (n - 1)) ≡ negated (Value n)
+unfolding negated
 negative-some n h = rw (ne-eqb n 0 h) (ap Value (omega arith))
 
 -- ---- words

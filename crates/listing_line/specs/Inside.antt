@@ -2,7 +2,7 @@
 use Prim.Native.Nat.{ℕ, _+_, _*_}
 use mathlib.Core.Bool.{Bool}
 use mathlib.Core.List.{List, [], _∷_, map}
-use Rattle.listing_line.specs.Kinds.{names}
+use Rattle.listing_line.specs.Kinds.{kindNames}
 use Rattle.listing_line.specs.Line.{_>>_, _>>=_}
 use Rattle.listing_line.specs.declared.Number.{Number}
 use Rattle.listing_line.specs.declared.Parsed.{Parsed}
@@ -13,8 +13,8 @@ unfoldable pub packed : List ℕ → ℕ
 packed [] = 1
 packed (b ∷ bs) = packed bs * 256 + b
 
-unfoldable pub words : List ℕ
-words = map packed names
+unfoldable pub kindWords : List ℕ
+kindWords = map packed kindNames
 
 -- `instruction`, of fields that are read
 abbrev pub assembled : Number → Bool → ℕ → Number → Number → Number → Number → Parsed

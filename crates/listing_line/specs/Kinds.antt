@@ -6,8 +6,8 @@ use lib.Dec.{eqb}
 use Rattle.listing_line.specs.Text.{bytes}
 
 -- a kind's code is its place here, from 0: the 50 of `translate_to_model`, in its order
-unfoldable pub names : List (List ℕ)
-names =
+unfoldable pub kindNames : List (List ℕ)
+kindNames =
     map bytes
     ("Lui" ∷ "Auipc" ∷ "Lb" ∷ "Lh" ∷ "Lw" ∷ "Ld" ∷ "Lbu" ∷ "Lhu" ∷ "Sb" ∷ "Sh"
     ∷ "Sw" ∷ "Sd" ∷ "Addi" ∷ "Sltiu" ∷ "Xori" ∷ "Ori" ∷ "Andi" ∷ "Slli" ∷ "Srli" ∷ "Srai"
@@ -22,10 +22,10 @@ same (x ∷ xs) [] = false
 same (x ∷ xs) (y ∷ ys) = eqb x y && same xs ys
 
 -- the place of the first entry that is the name, or the length of the table
-unfoldable pub place : List ℕ → List (List ℕ) → ℕ
-place name [] = 0
-place name (x ∷ xs) = cond (same name x) 0 (suc (place name xs))
+unfoldable pub placeOf : List ℕ → List (List ℕ) → ℕ
+placeOf name [] = 0
+placeOf name (x ∷ xs) = cond (same name x) 0 (suc (placeOf name xs))
 
 -- 50 for no kind
 abbrev pub kindCode : List ℕ → ℕ
-kindCode name = place name names
+kindCode name = placeOf name kindNames

@@ -4,7 +4,7 @@ use mathlib.Core.Bool.{Bool, true, false, cond, _&&_, _||_}
 use mathlib.Core.List.{List, [], _∷_}
 use lib.Dec.{ltb, leb, eqb}
 use lib.ListN.{length, getD}
-use Rattle.listing_line.specs.Text.{all, split, number}
+use Rattle.listing_line.specs.Text.{all, split, numberBelow}
 use Rattle.listing_line.specs.Kinds.{kindCode}
 use Rattle.listing_line.specs.declared.Number.{Number}
 use Rattle.listing_line.specs.declared.Number.the-variants.{Value, NotOne}
@@ -19,14 +19,14 @@ unfoldable pub letters : List ℕ → Bool
 letters bs = ltb 0 (length bs) && all letter bs
 
 -- the two's complement of a number that is not 0, in 64 bits
-unfoldable pub negative : Number → Number
-negative (Value n) = cond (eqb n 0) NotOne (Value (2 ^ 64 - n))
-negative NotOne = NotOne
+unfoldable pub negated : Number → Number
+negated (Value n) = cond (eqb n 0) NotOne (Value (2 ^ 64 - n))
+negated NotOne = NotOne
 
 -- a number within 32 signed bits, as 64 bits: `-` stands only before a number that is not 0
 unfoldable pub immediate : List ℕ → Number
 immediate [] = NotOne
-immediate (b ∷ bs) = cond (eqb b 45) (negative (number (2 ^ 31 + 1) bs)) (number (2 ^ 31) (b ∷ bs))
+immediate (b ∷ bs) = cond (eqb b 45) (negated (numberBelow (2 ^ 31 + 1) bs)) (numberBelow (2 ^ 31) (b ∷ bs))
 
 -- a line is malformed unless the test passes, or unless the field is a number
 infixl 20 _>>_
@@ -43,11 +43,11 @@ NotOne >>= r = Malformed
 unfoldable pub instruction : List (List ℕ) → Parsed
 instruction fields = do
   eqb (length fields) 6
-  address ← number (2 ^ 64) (getD fields 0 [])
+  address ← numberBelow (2 ^ 64) (getD fields 0 [])
   letters (getD fields 1 [])
-  rd ← number 256 (getD fields 2 [])
-  rs1 ← number 256 (getD fields 3 [])
-  rs2 ← number 256 (getD fields 4 [])
+  rd ← numberBelow 256 (getD fields 2 [])
+  rs1 ← numberBelow 256 (getD fields 3 [])
+  rs2 ← numberBelow 256 (getD fields 4 [])
   imm ← immediate (getD fields 5 [])
   Instruction address (kindCode (getD fields 1 [])) rd rs1 rs2 imm
 

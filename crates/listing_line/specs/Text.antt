@@ -50,9 +50,9 @@ unfoldable pub onward : ℕ → List ℕ → ℕ
 onward n [] = n
 onward n (b ∷ bs) = onward (n * 10 + (b - 48)) bs
 
-abbrev pub value : List ℕ → ℕ
-value bs = onward 0 bs
+abbrev pub digitsValue : List ℕ → ℕ
+digitsValue bs = onward 0 bs
 
 -- the decimal number below the limit that the bytes are
-unfoldable pub number : ℕ → List ℕ → Number
-number limit bs = cond (decimal bs && ltb (value bs) limit) (Value (value bs)) NotOne
+unfoldable pub numberBelow : ℕ → List ℕ → Number
+numberBelow limit bs = cond (decimal bs && ltb (digitsValue bs) limit) (Value (digitsValue bs)) NotOne

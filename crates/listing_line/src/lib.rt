@@ -3,9 +3,9 @@ ghost use mathlib.Core.Path.{_≡_};
 ghost use mathlib.Core.List.{[]};
 ghost use Prim.Native.Nat.{_+_, _<_, _≤_};
 ghost use lib.ListN.{length, getD};
-ghost use Rattle.listing_line.specs.Text.{split, before, number};
+ghost use Rattle.listing_line.specs.Text.{split, before, numberBelow};
 ghost use Rattle.listing_line.specs.Kinds.{kindCode};
-ghost use Rattle.listing_line.specs.Inside.{packed, words, assembled};
+ghost use Rattle.listing_line.specs.Inside.{packed, kindWords, assembled};
 ghost use Rattle.listing_line.specs.Line.{parseLine};
 ghost use Rattle.listing_line.specs.Line.{letter as Line·letter};
 ghost use Rattle.listing_line.specs.Line.{letters as Line·letters};
@@ -140,7 +140,7 @@ fn field(s: &[u8], k: usize) -> &[u8]
 
 // The decimal number that s is, if it is at most `most`.
 fn decimal(s: &[u8], most: u64) -> Number
-    ensures { λ r. ⌜ r ≡ number (most + 1) (now (s .entry)) ⌝ }
+    ensures { λ r. ⌜ r ≡ numberBelow (most + 1) (now (s .entry)) ⌝ }
 {
     if s.len() == 0 {
         return Number::NotOne;
@@ -288,7 +288,7 @@ const KINDS: [u64; 50] = [
 
 fn kind_word(k: usize) -> u64
     requires { ⌜ k < 50 ⌝ }
-    ensures { λ r. ⌜ r ≡ getD words k 0 ⌝ }
+    ensures { λ r. ⌜ r ≡ getD kindWords k 0 ⌝ }
 {
     KINDS[k]
 }

@@ -1,38 +1,48 @@
 // The listing, as a program runs it: reads an instruction a line, and writes the node lines, edges and dispatches that it is lowered to, or its refusal.
-// Everything but reading and writing is in the libraries listing_input (lines), listing_start (the start) and listing_step (a line's output).
+// Everything but reading and writing is in the library listing_bytes and those below it.
 use libc::STDIN_FILENO;
 use libc::STDOUT_FILENO;
-use listing_input::gather;
-use listing_step::step;
-use lowering_refusals::State;
-ghost use Prim.Native.Nat.{_≤_};
+use listing_bytes::Reading;
+use listing_bytes::end_input;
+use listing_bytes::start_reading;
+use listing_bytes::take_line;
+ghost use mathlib.Core.Path.{_≡_};
+ghost use mathlib.Core.Bool.{true};
+ghost use lib.ListN.{length};
+ghost use Rattle.lowering.specs.Lowering.{lent};
+ghost use Rattle.listing_bytes.specs.Storage.{outRoom};
+ghost use Rattle.listing_bytes.specs.Pieces.{progress, takeBytes, start};
+ghost use Rattle.listing_bytes.specs.Reaches.{Reaches};
 
-// 1,024 lines of four words; a bad line's name has at most 33 bytes, and an instruction at most two edges and one dispatch.
-const LIST: usize = 4096;
+// Every line may be a bad one, with the longest name. An instruction has at most two edges and one dispatch.
+const LINES: usize = 1024;
 
-const NAMES: usize = 33792;
+const LONGEST_NAME: usize = 33;
 
-const EDGES: usize = 8;
+const LIST: usize = LINES * btor2_list::STRIDE;
 
-const DISPATCHES: usize = 2;
+const NAMES: usize = LINES * LONGEST_NAME;
 
-const BADS: usize = 1024;
+const EDGES: usize = 2 * edges::EDGE;
+
+const DISPATCHES: usize = dispatches::DISPATCH;
+
+const BADS: usize = LINES;
 
 // One byte more than the longest line, so that a longer one is seen to be longer.
 const LINE: usize = 257;
 
-// What has been read: the state after the lines before this one, this one's number, how many bytes of it are held, and whether to go on.
-struct Reading {
-    state: State,
-    number: u64,
-    held: usize,
-    going: bool,
-}
+// For the output of one line of input.
+const OUT: usize = 4096;
 
-// What has been read, and where in the piece to go on.
-struct Taken {
+// For one read.
+const PIECE: usize = 4096;
+
+// What has been read, whether more is to be read, and whether all output was written.
+struct Run {
     reading: Reading,
-    next: usize,
+    more: bool,
+    written: bool,
 }
 
 // From standard input to standard output.
@@ -43,27 +53,58 @@ pub fn list_instructions() {
     let mut dispatches = [0u64; DISPATCHES];
     let mut bads = [0u64; BADS];
     let mut line = [0u8; LINE];
+    let mut out = [0u8; OUT];
     listing_start::put_start(&mut list);
-    run(
+    list_from(
         &mut list,
         &mut names,
         &mut edges,
         &mut dispatches,
         &mut bads,
         &mut line,
+        &mut out,
+        start_reading(),
     );
 }
 
-fn run(
+// From the listing's start, with its storage.
+fn list_from(
     list: &mut [u64],
     names: &mut [u8],
     edges: &mut [u64],
     dispatches: &mut [u64],
     bads: &mut [u64],
     line: &mut [u8],
-) {
-    let reading = read_all(list, names, edges, dispatches, bads, line);
-    last_line(list, names, edges, dispatches, bads, line, reading);
+    out: &mut [u8],
+    reading: Reading,
+)
+    requires { ⌜ progress (lent (now list) (now names) (now edges) (now dispatches) (now bads)) (now line) reading ≡ start ⌝ }
+    requires { ⌜ length (now out) ≡ outRoom ⌝ }
+{
+    let run = read_all(list, names, edges, dispatches, bads, line, out, reading);
+    // After a write that failed nothing more is written.
+    if run.written {
+        let after = run.reading;
+        write_last(list, names, edges, dispatches, bads, line, out, after);
+    }
+}
+
+// Takes what is left of the last line, where the input has ended.
+fn write_last(
+    list: &mut [u64],
+    names: &mut [u8],
+    edges: &mut [u64],
+    dispatches: &mut [u64],
+    bads: &mut [u64],
+    line: &[u8],
+    out: &mut [u8],
+    reading: Reading,
+)
+    requires { ⌜ length (now out) ≡ outRoom ⌝ }
+{
+    let e = end_input(list, names, edges, dispatches, bads, line, out, reading);
+    let n = e.length;
+    io::write_all(STDOUT_FILENO, &out[..n]);
 }
 
 fn read_all(
@@ -73,38 +114,28 @@ fn read_all(
     dispatches: &mut [u64],
     bads: &mut [u64],
     line: &mut [u8],
-) -> Reading {
-    let mut reading = Reading {
-        state: listing_start::start_state(),
-        number: 1,
-        held: 0,
-        going: true,
+    out: &mut [u8],
+    reading: Reading,
+) -> Run
+    requires { ⌜ length (now out) ≡ outRoom ⌝ }
+    ensures { λ r. ⌜ Reaches (progress (lent (now (list .entry)) (now (names .entry)) (now (edges .entry)) (now (dispatches .entry)) (now (bads .entry))) (now (line .entry)) reading) (progress (lent (now (list .exit)) (now (names .exit)) (now (edges .exit)) (now (dispatches .exit)) (now (bads .exit))) (now (line .exit)) (r .reading)) ⌝ }
+{
+    let mut run = Run {
+        reading,
+        more: true,
+        written: true,
     };
     // A proved loop ends, and nothing says that an input does: this many turns no run uses up.
     let mut turns = u64::MAX;
-    while turns > 0 && reading.going {
-        reading = read_piece(list, names, edges, dispatches, bads, line, reading);
+    while turns > 0 && run.more {
+        let now = run.reading;
+        run = read_piece(list, names, edges, dispatches, bads, line, out, now);
         turns -= 1;
     }
-    reading
+    run
 }
 
-// The last newline may be missing.
-fn last_line(
-    list: &mut [u64],
-    names: &mut [u8],
-    edges: &mut [u64],
-    dispatches: &mut [u64],
-    bads: &mut [u64],
-    line: &[u8],
-    reading: Reading,
-) {
-    if reading.held > 0 {
-        end_line(list, names, edges, dispatches, bads, line, reading);
-    }
-}
-
-// Reads once, and takes the lines that end in what came.
+// Reads once, and takes what came.
 fn read_piece(
     list: &mut [u64],
     names: &mut [u8],
@@ -112,127 +143,81 @@ fn read_piece(
     dispatches: &mut [u64],
     bads: &mut [u64],
     line: &mut [u8],
+    out: &mut [u8],
     reading: Reading,
-) -> Reading {
-    let mut piece = [0u8; 4096];
+) -> Run
+    requires { ⌜ length (now out) ≡ outRoom ⌝ }
+    ensures { λ r. ⌜ Reaches (progress (lent (now (list .entry)) (now (names .entry)) (now (edges .entry)) (now (dispatches .entry)) (now (bads .entry))) (now (line .entry)) reading) (progress (lent (now (list .exit)) (now (names .exit)) (now (edges .exit)) (now (dispatches .exit)) (now (bads .exit))) (now (line .exit)) (r .reading)) ⌝ }
+{
+    let mut piece = [0u8; PIECE];
     let got = libc::read(STDIN_FILENO, &mut piece);
     let n = io::count(got, &piece);
     if n == 0 {
-        return stopped(reading);
+        return Run {
+            reading,
+            more: false,
+            written: true,
+        };
     }
-    take_lines(
+    take_piece(
         list,
         names,
         edges,
         dispatches,
         bads,
         line,
+        out,
         &piece[..n],
         reading,
     )
 }
 
-fn stopped(reading: Reading) -> Reading {
-    let state = reading.state;
-    Reading {
-        state,
-        number: reading.number,
-        held: reading.held,
-        going: false,
-    }
-}
-
-fn take_lines(
+// Takes a piece line by line, and writes what comes of each, up to the first write that fails.
+fn take_piece(
     list: &mut [u64],
     names: &mut [u8],
     edges: &mut [u64],
     dispatches: &mut [u64],
     bads: &mut [u64],
     line: &mut [u8],
+    out: &mut [u8],
     piece: &[u8],
     reading: Reading,
-) -> Reading {
+) -> Run
+    requires { ⌜ length (now out) ≡ outRoom ⌝ }
+    ensures reached { λ r. ⌜ Reaches (progress (lent (now (list .entry)) (now (names .entry)) (now (edges .entry)) (now (dispatches .entry)) (now (bads .entry))) (now (line .entry)) reading) (progress (lent (now (list .exit)) (now (names .exit)) (now (edges .exit)) (now (dispatches .exit)) (now (bads .exit))) (now (line .exit)) (r .reading)) ⌝ }
+    ensures whole { λ r. ⌜ (r .written ≡ true → progress (lent (now (list .exit)) (now (names .exit)) (now (edges .exit)) (now (dispatches .exit)) (now (bads .exit))) (now (line .exit)) (r .reading) ≡ takeBytes (now (piece .entry)) (progress (lent (now (list .entry)) (now (names .entry)) (now (edges .entry)) (now (dispatches .entry)) (now (bads .entry))) (now (line .entry)) reading) .progress) ⌝ }
+{
     let mut now = reading;
     let mut from = 0;
     while from < piece.len() {
-        let t = take_line(list, names, edges, dispatches, bads, line, piece, from, now);
-        if t.next <= from {
-            return t.reading;
+        let t = take_line(
+            list,
+            names,
+            edges,
+            dispatches,
+            bads,
+            line,
+            out,
+            piece,
+            from,
+            now,
+        );
+        let after = t.reading;
+        let n = t.length;
+        if !io::write_all(STDOUT_FILENO, &out[..n]) {
+            return Run {
+                reading: after,
+                more: false,
+                written: false,
+            };
         }
+        now = after;
         from = t.next;
-        now = t.reading;
     }
-    now
-}
-
-// Takes a line, or as much of it as the piece has.
-fn take_line(
-    list: &mut [u64],
-    names: &mut [u8],
-    edges: &mut [u64],
-    dispatches: &mut [u64],
-    bads: &mut [u64],
-    line: &mut [u8],
-    piece: &[u8],
-    from: usize,
-    reading: Reading,
-) -> Taken {
-    let g = gather(line, reading.held, piece, from);
-    let state = reading.state;
-    let more = Reading {
-        state,
-        number: reading.number,
-        held: g.held,
-        going: reading.going,
-    };
-    if g.ended {
-        return Taken {
-            reading: end_line(list, names, edges, dispatches, bads, line, more),
-            next: g.next,
-        };
+    Run {
+        reading: now,
+        more: true,
+        written: true,
     }
-    Taken {
-        reading: more,
-        next: g.next,
-    }
-}
-
-// Takes the line that is held, and writes its output.
-fn end_line(
-    list: &mut [u64],
-    names: &mut [u8],
-    edges: &mut [u64],
-    dispatches: &mut [u64],
-    bads: &mut [u64],
-    line: &[u8],
-    reading: Reading,
-) -> Reading {
-    let mut out = [0u8; 4096];
-    let n = least(reading.held, line.len());
-    let state = reading.state;
-    let r = step(
-        list,
-        names,
-        edges,
-        dispatches,
-        bads,
-        &mut out,
-        state,
-        reading.number,
-        &line[..n],
-    );
-    let written = io::write_all(STDOUT_FILENO, &out[..least(r.length, 4096)]);
-    let after = r.state;
-    Reading {
-        state: after,
-        number: std::num::wrapping_add_u64(reading.number, 1),
-        held: 0,
-        going: written,
-    }
-}
-
-fn least(a: usize, b: usize) -> usize
-    ensures { λ r. ⌜ (r ≤ a) × (r ≤ b) ⌝ }
-{
-    if a < b { a } else { b }
 }

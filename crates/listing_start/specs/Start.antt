@@ -1,5 +1,5 @@
 -- The listing program's own start (document 01, "The listing program has its own start").
-use Prim.Native.Nat.{ℕ, zero, suc, _+_, _-_}
+use Prim.Native.Nat.{ℕ, zero, suc, _+_, _-_, _*_}
 use mathlib.Core.Bool.{cond}
 use mathlib.Core.List.{List, [], _∷_, _++_, map}
 use lib.Dec.{ltb}
@@ -9,44 +9,51 @@ use Rattle.btor2.specs.declared.NodeRef.{NodeRef}
 use Rattle.btor2.specs.declared.NodeType.{NodeType}
 use Rattle.btor2.specs.declared.NodeType.the-variants.{Bit, Word, Memory}
 use Rattle.btor2.specs.Op.{Op, const, state}
-use Rattle.btor2_list.specs.Record.{words}
+use Rattle.btor2_list.specs.Record.{stride, words}
 use Rattle.btor2_list.specs.Node.{lineOf}
 use Rattle.listing_line.specs.Text.{bytes}
 use Rattle.lowering_refusals.specs.declared.State.{State}
 
 -- ---- names
 
-unfoldable pub names : List (List ℕ)
-names =
+unfoldable pub startNames : List (List ℕ)
+startNames =
     map bytes
     ("x1" ∷ "x2" ∷ "x3" ∷ "x4" ∷ "x5" ∷ "x6" ∷ "x7" ∷ "x8" ∷ "x9" ∷ "x10" ∷ "x11" ∷ "x12"
     ∷ "x13" ∷ "x14" ∷ "x15" ∷ "x16" ∷ "x17" ∷ "x18" ∷ "x19" ∷ "x20" ∷ "x21" ∷ "x22" ∷ "x23" ∷ "x24"
     ∷ "x25" ∷ "x26" ∷ "x27" ∷ "x28" ∷ "x29" ∷ "x30" ∷ "x31" ∷ "memory" ∷ "counter" ∷ "counter-max" ∷ "flag" ∷ [])
 
-unfoldable pub joined : List (List ℕ) → List ℕ
-joined [] = []
-joined (x ∷ xs) = x ++ joined xs
+unfoldable pub concat : List (List ℕ) → List ℕ
+concat [] = []
+concat (x ∷ xs) = x ++ concat xs
 
--- the host's area holds them one behind the other
+-- the host's area holds them one after the other
 unfoldable pub hostArea : List ℕ
-hostArea = joined names
+hostArea = concat startNames
 
-unfoldable pub named : ℕ → Name
-named k = record { area = 1; at = length (joined (take k names)); len = length (getD names k []) }
+unfoldable pub startName : ℕ → Name
+startName k = record { area = 1; at = length (concat (take k startNames)); len = length (getD startNames k []) }
 
 -- ---- lines
 
+-- 20 to 58
+abbrev pub firstNid : ℕ
+firstNid = 20
+
+abbrev pub startLines : ℕ
+startLines = 39
+
 -- n states of a sort, under the names from k on
-unfoldable pub states : NodeType → ℕ → ℕ → List (Op ℕ)
-states s k zero = []
-states s k (suc n) = state s (named k) ∷ states s (k + 1) n
+unfoldable pub namedStates : NodeType → ℕ → ℕ → List (Op ℕ)
+namedStates s k zero = []
+namedStates s k (suc n) = state s (startName k) ∷ namedStates s (k + 1) n
 
 -- "20 and 21 are the bits 0 and 1; 22 and 23 the words 0 and 1 (22 is also x0); 24 to 54 states `x1` to `x31`; 55 `memory`, 56 `counter`,
 -- 57 `counter-max`, 58 the Bit state `flag`"
 unfoldable pub startOps : List (Op ℕ)
 startOps =
     const Bit 0 ∷ const Bit 1 ∷ const Word 0 ∷ const Word 1
-    ∷ states Word 0 31 ++ states Memory 31 2 ++ states Word 33 1 ++ states Bit 34 1
+    ∷ namedStates Word 0 31 ++ namedStates Memory 31 2 ++ namedStates Word 33 1 ++ namedStates Bit 34 1
 
 -- the records of lines under identifiers that go up by one
 unfoldable pub records : ℕ → List (Op ℕ) → List ℕ
@@ -54,17 +61,17 @@ records nid [] = []
 records nid (o ∷ os) = words (lineOf nid o) ++ records (nid + 1) os
 
 unfoldable pub startWords : List ℕ
-startWords = records 20 startOps
+startWords = records firstNid startOps
 
 -- the lent words with the start in front, where they hold it
 unfoldable pub startIn : List ℕ → List ℕ
-startIn ws = cond (ltb (length ws) 156) ws (startWords ++ drop 156 ws)
+startIn ws = cond (ltb (length ws) (startLines * stride)) ws (startWords ++ drop (startLines * stride) ws)
 
 -- ---- roles
 
 -- the place of the line under an identifier
 abbrev pub placed : ℕ → NodeRef
-placed nid = record { 0 = nid - 20 }
+placed nid = record { 0 = nid - firstNid }
 
 unfoldable pub fromOn : ℕ → ℕ → List ℕ
 fromOn nid zero = []
@@ -77,10 +84,10 @@ startRoles =
     map placed
     ((20 ∷ 21 ∷ 22 ∷ 23 ∷ 55 ∷ 56 ∷ 57 ∷ 22 ∷ fromOn 24 31) ++ fromOn 24 31 ++ (55 ∷ 56 ∷ 57 ∷ 23 ∷ 23 ∷ 22 ∷ 20 ∷ 20 ∷ 20 ∷ []))
 
--- 39 lines, of which the next has identifier 59; nothing of the other lists is in use
+-- the next line has identifier 59; nothing of the other lists is in use
 unfoldable pub startState : State
 startState = record {
-  tally = record { lines = 39; nid = 59 };
+  tally = record { lines = startLines; nid = firstNid + startLines };
   counts = record { names = 0; edges = 0; dispatches = 0; bads = 0 };
   roles = startRoles;
 }

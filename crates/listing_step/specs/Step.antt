@@ -39,15 +39,15 @@ unfoldable pub answerText : ℕ → ℕ → Answer → List ℕ
 answerText line from a =
     cond (eqb (a .lowered .refusal) 0) (appendedText from (a .lent) (a .lowered .state)) (refusedText line (a .lowered .refusal))
 
-abbrev pub answered : ℕ → ℕ → Answer → Step
-answered line from a = record { state = a .lowered .state; lent = a .lent; text = answerText line from a }
+abbrev pub answerStep : ℕ → ℕ → Answer → Step
+answerStep line from a = record { state = a .lowered .state; lent = a .lent; text = answerText line from a }
 
 -- "Every instruction uses flag 58." "Number 0 means over 256 bytes or not six fields"
-abbrev pub taken : ℕ → Lent → State → Parsed → Step
-taken line l st Malformed = record { state = st; lent = l; text = refusedText line 0 }
-taken line l st (Instruction address kind rd rs1 rs2 imm) =
-    answered line (st .tally .lines) (lowering l st (record { kind = kind; rd = rd; rs1 = rs1; rs2 = rs2; imm = imm }) address (placed 58))
+abbrev pub parsedStep : ℕ → Lent → State → Parsed → Step
+parsedStep line l st Malformed = record { state = st; lent = l; text = refusedText line 0 }
+parsedStep line l st (Instruction address kind rd rs1 rs2 imm) =
+    answerStep line (st .tally .lines) (lowering l st (record { kind = kind; rd = rd; rs1 = rs1; rs2 = rs2; imm = imm }) address (placed 58))
 
 -- the line of this number
 unfoldable pub step : ℕ → List ℕ → Lent → State → Step
-step number line l st = taken number l (emptied st) (parseLine line)
+step number line l st = parsedStep number l (emptied st) (parseLine line)

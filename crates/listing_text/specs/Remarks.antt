@@ -10,8 +10,8 @@ use Rattle.line_text.specs.Line.{nidAt}
 use Rattle.node_text.specs.Words.{ascii}
 use Rattle.text.specs.Numeral.{decimalText}
 
-abbrev pub newline : List ℕ
-newline = 10 ∷ []
+abbrev pub newlineText : List ℕ
+newlineText = 10 ∷ []
 
 -- "kind regular, branch or syscall"
 abbrev pub originWord : ℕ → String
@@ -25,32 +25,32 @@ conditionText ns condition = cond (eqb condition (2 ^ 64 - 1)) (ascii "-") (deci
 unfoldable pub edgeText : List Node → ℕ → ℕ → ℕ → ℕ → List ℕ
 edgeText ns to from origin condition =
     ascii "; in " ++ decimalText to ++ ascii " from " ++ decimalText from ++ ascii " " ++ ascii (originWord origin) ++ ascii " "
-    ++ conditionText ns condition ++ newline
+    ++ conditionText ns condition ++ newlineText
 
 -- "`; dyn REGISTER FROM`"
 unfoldable pub dispatchText : ℕ → ℕ → List ℕ
-dispatchText register from = ascii "; dyn " ++ decimalText register ++ ascii " " ++ decimalText from ++ newline
+dispatchText register from = ascii "; dyn " ++ decimalText register ++ ascii " " ++ decimalText from ++ newlineText
 
 -- "`; refused LINE NUMBER`, lines counted from 1"
 unfoldable pub refusedText : ℕ → ℕ → List ℕ
-refusedText line number = ascii "; refused " ++ decimalText line ++ ascii " " ++ decimalText number ++ newline
+refusedText line number = ascii "; refused " ++ decimalText line ++ ascii " " ++ decimalText number ++ newlineText
 
 -- ---- of lent lists
 
 -- record k of edges: to, from, origin, condition
-unfoldable pub edgeAt : List Node → List ℕ → ℕ → List ℕ
-edgeAt ns es k =
+unfoldable pub edgeTextAt : List Node → List ℕ → ℕ → List ℕ
+edgeTextAt ns es k =
     cond (ltb k (length es / 4))
     (edgeText ns (getD es (k * 4) 0) (getD es (k * 4 + 1) 0) (getD es (k * 4 + 2) 0) (getD es (k * 4 + 3) 0)) []
 
 unfoldable pub edgesText : List Node → List ℕ → ℕ → List ℕ
 edgesText ns es zero = []
-edgesText ns es (suc n) = edgesText ns es n ++ edgeAt ns es n
+edgesText ns es (suc n) = edgesText ns es n ++ edgeTextAt ns es n
 
 -- record k of dispatches: register, from
-unfoldable pub dispatchAt : List ℕ → ℕ → List ℕ
-dispatchAt ds k = cond (ltb k (length ds / 2)) (dispatchText (getD ds (k * 2) 0) (getD ds (k * 2 + 1) 0)) []
+unfoldable pub dispatchTextAt : List ℕ → ℕ → List ℕ
+dispatchTextAt ds k = cond (ltb k (length ds / 2)) (dispatchText (getD ds (k * 2) 0) (getD ds (k * 2 + 1) 0)) []
 
 unfoldable pub dispatchesText : List ℕ → ℕ → List ℕ
 dispatchesText ds zero = []
-dispatchesText ds (suc n) = dispatchesText ds n ++ dispatchAt ds n
+dispatchesText ds (suc n) = dispatchesText ds n ++ dispatchTextAt ds n

@@ -1,6 +1,6 @@
 // The listing's remarks on dispatches and refusals as text; those on edges are in listing_edges.
 ghost use Rattle.text.specs.Put.{Put};
-ghost use Rattle.listing_text.specs.Remarks.{dispatchText, refusedText, dispatchAt, dispatchesText};
+ghost use Rattle.listing_text.specs.Remarks.{dispatchText, refusedText, dispatchTextAt, dispatchesText};
 
 pub const SPACE: u8 = 32;
 
@@ -17,7 +17,7 @@ fn put_dispatch(out: &mut [u8], at: usize, register: u64, from: u64) -> usize
 }
 
 fn put_dispatch_at(out: &mut [u8], at: usize, records: &[u64], k: usize) -> usize
-    ensures { λ r. ⌜ Put (now (out .entry)) at (dispatchAt (now (records .entry)) k) (now (out .exit)) r ⌝ }
+    ensures { λ r. ⌜ Put (now (out .entry)) at (dispatchTextAt (now (records .entry)) k) (now (out .exit)) r ⌝ }
 {
     if records.len() / dispatches::DISPATCH <= k {
         return at;

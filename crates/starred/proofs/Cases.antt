@@ -22,10 +22,10 @@ use Rattle.text.specs.BadName.{badName}
 use Rattle.lowering_refusals.specs.Refusal.{roomOf, needsOf, roomOut, flagOut, refusalGiven}
 use Rattle.lowering_lines.specs.Lines.{programFrom}
 use Rattle.lowering.specs.Lowering.{programOf, countsAfter, settled, loweringGiven}
-use Rattle.listing_start.specs.Start.{names, joined, named, states as statesOf, startOps, records, startWords, startIn, fromOn, startRoles, startState}
+use Rattle.listing_start.specs.Start.{startNames, concat, startName, namedStates, startOps, records, startWords, startIn, fromOn, startRoles, startState}
 use Rattle.starred.specs.Case.{room, answer, states}
 use Rattle.starred.specs.Cases.{cases, Starred}
 
 pub starred : Starred
-unfolding cases room answer states names joined named statesOf startOps records startWords startIn fromOn startRoles startState loweringGiven refusalGiven roomOf needsOf rolesFit lineAt opOf carried refusal flagOut roomOut settled programOf programFrom countsAfter appendLine constantOf upper operandsFor flowsIn withFlows translate regFlowIte unimplemented _>>=_ newNeq newUgte newSra newShiftRight checkAdditionOverflow modelAddress wordAddress bitOffset modelL load constant link withConstant addend sumWithConstant modelAddi shiftedBack divided modelBranch numeral badName view walk mapOp evalOp binary values value Smt.ite bit negative bvnot bvneg bvadd bvsub bvmul bvudiv bvsdiv bvand bvshl bvlshr bvult bvcomp zeroExtend
+unfolding cases room answer states startNames concat startName namedStates startOps records startWords startIn fromOn startRoles startState loweringGiven refusalGiven roomOf needsOf rolesFit lineAt opOf carried refusal flagOut roomOut settled programOf programFrom countsAfter appendLine constantOf upper operandsFor flowsIn withFlows translate regFlowIte unimplemented _>>=_ newNeq newUgte newSra newShiftRight checkAdditionOverflow modelAddress wordAddress bitOffset modelL load constant link withConstant addend sumWithConstant modelAddi shiftedBack divided modelBranch numeral badName view walk mapOp evalOp binary values value Smt.ite bit negative bvnot bvneg bvadd bvsub bvmul bvudiv bvsdiv bvand bvshl bvlshr bvult bvcomp zeroExtend
 starred = refl

@@ -7,13 +7,13 @@ use native.Mathlib.Omega.{arith}
 use lib.ListN.{drop, getD}
 use borrow.Author.Needs.{needs}
 use Rattle.listing_line.proofs.Names.{same-yes, same-no, place-hit, place-miss, place-end, names-length, name-bytes, long-name, word-at}
-use Rattle.listing_line.specs.Kinds.{names, place}
+use Rattle.listing_line.specs.Kinds.{kindNames, placeOf}
 use Rattle.listing_line.specs.Inside.{packed}
 use Rattle.listing_line.proofs.kind_code.Statement.{statement}
 use Rattle.listing_line.proofs.kind_code.Tie as tie
 
 abbrev Inv-loop : tie.InvT-loop
-Inv-loop name w k₀ k = (k ≤ 50) × (w ≡ packed name) × (k + place name (drop k names) ≡ place name names)
+Inv-loop name w k₀ k = (k ≤ 50) × (w ≡ packed name) × (k + placeOf name (drop k kindNames) ≡ placeOf name kindNames)
 
 abbrev μ-loop : tie.MeasureT-loop
 μ-loop name w k₀ k = 50 - k
@@ -37,8 +37,8 @@ returns-2 c =
     let s = c .before .before .before .before .before .before .before .args .name .now in
     let h : k < 50 = c .before .before .loop-test .taken in
     let g = c .before .before .before .before .before .before .shared-slice-known .given in
-    let e : packed s ≡ packed (getD names k []) = sym (l .inv .1) ∙ sym (c .if2 .taken) ∙ c .before .kind-word .ensures ∙ word-at k h in
-    omega (arith, place-hit names k (rw names-length h) s (same-yes s (getD names k []) (λ j. omega (arith, g j)) (name-bytes k) e))
+    let e : packed s ≡ packed (getD kindNames k []) = sym (l .inv .1) ∙ sym (c .if2 .taken) ∙ c .before .kind-word .ensures ∙ word-at k h in
+    omega (arith, place-hit kindNames k (rw names-length h) s (same-yes s (getD kindNames k []) (λ j. omega (arith, g j)) (name-bytes k) e))
 
 add-k : tie.Need-add-k Inv-loop μ-loop
 add-k c = search needs
@@ -52,14 +52,14 @@ loop-again c =
     let k = l .k in
     let s = c .before .before .before .before .before .before .before .args .name .now in
     let h : k < 50 = c .before .before .loop-test .taken in
-    let n : packed s ≡ packed (getD names k []) → ⊥ = λ e. c .if2 .left (c .before .kind-word .ensures ∙ word-at k h ∙ sym e ∙ sym (l .inv .1)) in
-    let m = place-miss names k (rw names-length h) s (same-no s (getD names k []) n) in
+    let n : packed s ≡ packed (getD kindNames k []) → ⊥ = λ e. c .if2 .left (c .before .kind-word .ensures ∙ word-at k h ∙ sym e ∙ sym (l .inv .1)) in
+    let m = place-miss kindNames k (rw names-length h) s (same-no s (getD kindNames k []) n) in
     (omega arith, l .inv .1, omega (arith, m))
 
 returns-3 : tie.Need-returns-3 Inv-loop μ-loop
 returns-3 c =
     let l = c .before .loop in
-    omega (arith, place-end names (l .k) (c .before .before .before .before .before .args .name .now) (rw names-length (c .loop-test .left)))
+    omega (arith, place-end kindNames (l .k) (c .before .before .before .before .before .args .name .now) (rw names-length (c .loop-test .left)))
 
 pub kind-code-spec : {M : Type 1} → statement M
 kind-code-spec =

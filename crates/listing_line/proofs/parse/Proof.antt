@@ -8,7 +8,7 @@ use lib.ListN.{length, getD}
 use borrow.Author.Tests.{lt-leb, le-leb, eq-eqb, ne-eqb}
 use borrow.Author.Needs.{needs}
 use Rattle.listing_line.specs.declared.Number.{Number}
-use Rattle.listing_line.specs.Text.{split, number}
+use Rattle.listing_line.specs.Text.{split, numberBelow}
 use Rattle.listing_line.specs.Kinds.{kindCode}
 use Rattle.listing_line.specs.Line.{parseLine, instruction, letters, immediate}
 use Rattle.listing_line.specs.Inside.{assembled}
@@ -18,8 +18,8 @@ use Rattle.listing_line.proofs.parse.Tie as tie
 -- the fields, read one by one, are the line
 read : (line : List ℕ) → length line ≤ 256 → length (split 32 line) ≡ 6
     → {at d s t i : Number} {named : Bool} {kind : ℕ}
-    → at ≡ number (2 ^ 64) (getD (split 32 line) 0 []) → named ≡ letters (getD (split 32 line) 1 []) → kind ≡ kindCode (getD (split 32 line) 1 [])
-    → d ≡ number 256 (getD (split 32 line) 2 []) → s ≡ number 256 (getD (split 32 line) 3 []) → t ≡ number 256 (getD (split 32 line) 4 [])
+    → at ≡ numberBelow (2 ^ 64) (getD (split 32 line) 0 []) → named ≡ letters (getD (split 32 line) 1 []) → kind ≡ kindCode (getD (split 32 line) 1 [])
+    → d ≡ numberBelow 256 (getD (split 32 line) 2 []) → s ≡ numberBelow 256 (getD (split 32 line) 3 []) → t ≡ numberBelow 256 (getD (split 32 line) 4 [])
     → i ≡ immediate (getD (split 32 line) 5 []) → assembled at named kind d s t i ≡ parseLine line
 unfolding parseLine instruction
 read line short six a n k d s t i = rw (a, n, k, d, s, t, i, le-leb (length line) 256 short, eq-eqb (length (split 32 line)) 6 six)
@@ -81,12 +81,12 @@ returns-3 : tie.Need-returns-3
 returns-3 c =
     c .assemble .ensures
     ∙ read (c .before .before .before .before .before .before .before .before .before .before .before .before .before .before .before .before .before .before .args .line .now) (c .before .before .before .before .before .before .before .before .before .before .before .before .before .before .before .before .if1 .left) (sym (c .before .before .before .before .before .before .before .before .before .before .before .before .before .before .before .fields .ensures) ∙ c .before .before .before .before .before .before .before .before .before .before .before .before .before .before .if2 .left)
-    (c .before .before .before .before .before .before .before .before .before .before .before .decimal .ensures ∙ ap (number (2 ^ 64)) (c .before .before .before .before .before .before .before .before .before .before .before .before .field2 .ensures))
+    (c .before .before .before .before .before .before .before .before .before .before .before .decimal .ensures ∙ ap (numberBelow (2 ^ 64)) (c .before .before .before .before .before .before .before .before .before .before .before .before .field2 .ensures))
     (c .before .before .before .before .before .before .before .before .before .before .letters .ensures ∙ ap letters (c .before .before .before .before .before .before .before .before .before .before .before .before .before .field .ensures))
     (c .before .before .before .before .before .before .before .before .before .kind-code .ensures ∙ ap kindCode (c .before .before .before .before .before .before .before .before .before .before .before .before .before .field .ensures))
-    (c .before .before .before .before .before .before .before .decimal2 .ensures ∙ ap (number 256) (c .before .before .before .before .before .before .before .before .field3 .ensures))
-    (c .before .before .before .before .before .decimal3 .ensures ∙ ap (number 256) (c .before .before .before .before .before .before .field4 .ensures))
-    (c .before .before .before .decimal4 .ensures ∙ ap (number 256) (c .before .before .before .before .field5 .ensures))
+    (c .before .before .before .before .before .before .before .decimal2 .ensures ∙ ap (numberBelow 256) (c .before .before .before .before .before .before .before .before .field3 .ensures))
+    (c .before .before .before .before .before .decimal3 .ensures ∙ ap (numberBelow 256) (c .before .before .before .before .before .before .field4 .ensures))
+    (c .before .before .before .decimal4 .ensures ∙ ap (numberBelow 256) (c .before .before .before .before .field5 .ensures))
     (c .before .immediate .ensures ∙ ap immediate (c .before .before .field6 .ensures))
 
 pub parse-spec : {M : Type 1} → statement M

@@ -8,13 +8,13 @@ use lib.ListN.{length, length-set, set, take}
 use lib.Seq.{sets}
 use borrow.Author.Tests.{lt-ltb, le-ltb}
 use borrow.Author.Needs.{needs}
-use Rattle.listing_start.specs.Start.{names, joined, named, states, startOps, records, startWords, startIn}
+use Rattle.listing_start.specs.Start.{startNames, concat, startName, namedStates, startOps, records, startWords, startIn}
 use Rattle.listing_start.proofs.Copied.{copied-more, copied-all}
 use Rattle.listing_start.proofs.put_start.Statement.{statement}
 use Rattle.listing_start.proofs.put_start.Tie as tie
 
 whole : length startWords ≡ 156
-unfolding names joined named states startOps records startWords
+unfolding startNames concat startName namedStates startOps records startWords
 whole = refl
 
 abbrev Inv-loop : tie.InvT-loop

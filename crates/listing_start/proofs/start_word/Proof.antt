@@ -1,12 +1,12 @@
 -- The definition's records, computed, are the code's table. Assumes nothing.
 use mathlib.Core.Path.{refl}
 use borrow.Author.Needs.{needs}
-use Rattle.listing_start.specs.Start.{names, joined, named, states, startOps, records, startWords}
+use Rattle.listing_start.specs.Start.{startNames, concat, startName, namedStates, startOps, records, startWords}
 use Rattle.listing_start.proofs.start_word.Statement.{statement}
 use Rattle.listing_start.proofs.start_word.Tie as tie
 
 returns : tie.Need-returns
-unfolding names joined named states startOps records startWords
+unfolding startNames concat startName namedStates startOps records startWords
 returns c = refl
 
 pub start-word-spec : {M : Type 1} → statement M

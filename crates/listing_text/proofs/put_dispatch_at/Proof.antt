@@ -2,17 +2,17 @@
 use mathlib.Core.Path.{refl}
 use native.Mathlib.Omega.{arith}
 use borrow.Author.Tests.{lt-ltb, le-ltb}
-use Rattle.listing_text.specs.Remarks.{dispatchAt}
+use Rattle.listing_text.specs.Remarks.{dispatchTextAt}
 use borrow.Author.Needs.{needs}
 use Rattle.listing_text.proofs.put_dispatch_at.Statement.{statement}
 use Rattle.listing_text.proofs.put_dispatch_at.Tie as tie
 
 returns : tie.Need-returns
-unfolding dispatchAt
+unfolding dispatchTextAt
 returns c = rw (le-ltb _ _ (c .if1 .taken)) (record { list = refl; next = omega arith })
 
 returns-2 : tie.Need-returns-2
-unfolding dispatchAt
+unfolding dispatchTextAt
 returns-2 c = rw (lt-ltb _ _ (c .before .before .before .before .before .before .if1 .left)) (c .before .before .put-dispatch .ensures)
 
 pub put-dispatch-at-spec : {M : Type 1} → statement M

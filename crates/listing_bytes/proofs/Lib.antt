@@ -1,0 +1,5 @@
+pub mod Bytes
+pub mod Core
+pub mod Room
+pub mod Text
+pub mod Whole

@@ -1,0 +1,149 @@
+-- In every state that the listing reaches, the counts, the roles and the flag are as a call asks. Assumes nothing.
+use Prim.Native.Nat.{ℕ, _+_, _*_, _/_, _^_, _≤_}
+use mathlib.Core.Path.{_≡_, refl, sym, _∙_, ap}
+use mathlib.Core.Bool.{Bool, true, false, _&&_}
+use mathlib.Core.List.{List, [], _∷_, _++_}
+use native.Mathlib.Omega.{arith}
+use borrow.Author.Tests.{le-ltb, eqb-true, eqb-false, not-false}
+use lib.Dec.{eqb}
+use lib.ListN.{length, getD, replicate, List·getD-append}
+use Rattle.btor2.specs.declared.NodeRef.{NodeRef}
+use Rattle.btor2.specs.Op.{unknown, carried}
+use Rattle.btor2_list.specs.Record.{stride}
+use Rattle.btor2_list.specs.Node.{Node, node}
+use Rattle.btor2_list.specs.View.{view}
+use Rattle.btor2_list.specs.Look.{seen, lookAt}
+use Rattle.btor2_list.proofs.Seen.{look-line}
+use Rattle.btor2_list.proofs.View.{view-length}
+use Rattle.instruction_class.specs.declared.Class.{Class}
+use Rattle.instruction_class.specs.Class.{class, needsFlag}
+use Rattle.listing_bytes.specs.Storage.{mostLines, startLent}
+use Rattle.listing_bytes.specs.Listing.{steps, reached}
+use Rattle.listing_bytes.proofs.Room.{Kept, zeros, start-kept, emptied-kept, call-kept, lines-decide}
+use Rattle.listing_bytes.proofs.Core.{one-call}
+use Rattle.listing_line.specs.declared.Parsed.{Parsed}
+use Rattle.listing_line.specs.declared.Parsed.the-variants.{Instruction as Instr, Malformed}
+use Rattle.listing_line.specs.Line.{parseLine}
+use Rattle.listing_start.specs.Start.{firstNid, startLines, placed, startNames, concat, startName, namedStates, startOps, startIn, startState}
+use Rattle.listing_step.specs.Step.{emptied, parsedStep, step}
+use Rattle.lowering_refusals.specs.declared.State.{State}
+use Rattle.lowering_refusals.specs.Refusal.{roomOf, countsOut, flagOut, refusalGiven, refusalOf}
+use Rattle.lowering.specs.Lowering.{Lent, roomIn, lowering}
+use Rattle.lowering_laws.specs.Lines.{numbered}
+use Rattle.lowering_laws.proofs.OneCall.{when-accepted, when-refused}
+use Rattle.riscv.specs.declared.Instruction.{Instruction}
+use Rattle.riscv.specs.Kind.{kindAt}
+use Rattle.roles_check.specs.RolesFit.{valueNumber, rolesFit}
+use Rattle.roles_kept.proofs.Call.{refusal-is, roled-after, roles-keep}
+use Rattle.listing_laws.specs.Refusals.{OwnNumberOrFull}
+use Rattle.listing_laws.proofs.Accepted.{lines-put, roles-put, given}
+
+abbrev flag : NodeRef
+flag = placed 58
+
+pub record Sound (l : Lent) (st : State) : Type 0 where
+  pub kept : Kept l st
+  pub begun : startLines ≤ st .tally .lines
+  pub nids : st .tally .nid ≡ st .tally .lines + firstNid
+  pub size : length (st .roles) ≡ 79
+  pub roles : rolesFit (l .list) (st .tally .lines) 0 (st .roles) ≡ true
+  pub bit : valueNumber (lookAt (l .list) (st .tally .lines) (flag .0)) ≡ 1
+
+nowhere : Node
+nowhere = node 0 unknown
+
+held : (l : Lent) (st : State) → Kept l st → st .tally .lines * stride ≤ length (l .list)
+held l st k = omega (arith, k .list, k .lines)
+
+-- ---- the start
+
+flag-line : valueNumber (seen (getD (numbered firstNid startOps) (flag .0) nowhere)) ≡ 1
+unfolding startNames concat startName namedStates startOps numbered carried
+flag-line = refl
+
+start-sound : Sound startLent startState
+unfolding startLent startState
+start-sound =
+    let ws = replicate {A = ℕ} (mostLines * stride) 0 in
+    let room : startLines * stride ≤ length ws = omega (arith, zeros (mostLines * stride)) in
+    record {
+      kept = start-kept;
+      begun = omega arith;
+      nids = refl;
+      size = given;
+      roles = not-false _ (roles-put ws room);
+      bit =
+          ap valueNumber (look-line (startIn ws) startLines (held startLent startState start-kept) (flag .0) nowhere (omega arith))
+          ∙ ap (λ (v : List Node). valueNumber (seen (getD v (flag .0) nowhere))) (lines-put ws room) ∙ flag-line;
+    }
+
+-- ---- a call
+
+module _ (l : Lent) (st : State) (s : Sound l st) (i : Instruction) (pc : ℕ) where
+  accepted-sound : refusalOf (l .list) (roomIn l) st i pc (flag .0) ≡ 0 → Sound (lowering l st i pc flag .lent) (lowering l st i pc flag .lowered .state)
+  accepted-sound e =
+      let a = when-accepted l st i pc flag e in
+      let kept = call-kept l st i pc (s .kept) (one-call l st i pc flag) in
+      record {
+        kept = kept;
+        begun = omega (arith, a .lines, s .begun);
+        nids = omega (arith, a .lines, a .nids, s .nids);
+        size = roled-after l st i pc flag (s .size) e .size;
+        roles = roles-keep l st i pc flag (s .size) (a .refusal);
+        bit =
+            ap valueNumber (look-line _ _ (held _ _ kept) (flag .0) nowhere (omega (arith, a .lines, s .begun)))
+            ∙ ap (λ (v : List Node). valueNumber (seen (getD v (flag .0) nowhere))) (a .nodes)
+            ∙ ap (λ (n : Node). valueNumber (seen n)) (List·getD-append (view (l .list) (st .tally .lines)) _ nowhere (flag .0) (omega (arith, view-length (l .list) (st .tally .lines), s .begun)))
+            ∙ sym (ap valueNumber (look-line (l .list) (st .tally .lines) (held l st (s .kept)) (flag .0) nowhere (omega (arith, s .begun)))) ∙ s .bit;
+      }
+
+  call-sound : Sound (lowering l st i pc flag .lent) (lowering l st i pc flag .lowered .state)
+  call-sound = go (eqb (refusalOf (l .list) (roomIn l) st i pc (flag .0)) 0) refl
+    where
+      go : (b : Bool) → eqb (refusalOf (l .list) (roomIn l) st i pc (flag .0)) 0 ≡ b → Sound (lowering l st i pc flag .lent) (lowering l st i pc flag .lowered .state)
+      go true e = accepted-sound (eqb-true _ 0 e)
+      go false e = rw (when-refused l st i pc flag (eqb-false _ 0 e)) s
+
+-- ---- lines
+
+emptied-sound : (l : Lent) (st : State) → Sound l st → Sound l (emptied st)
+unfolding emptied
+emptied-sound l st s = record { kept = emptied-kept l st (s .kept); begun = s .begun; nids = s .nids; size = s .size; roles = s .roles; bit = s .bit }
+
+parsed-sound : (number : ℕ) (l : Lent) (st : State) (p : Parsed) → Sound l st → Sound (parsedStep number l st p .lent) (parsedStep number l st p .state)
+parsed-sound number l st Malformed s = s
+parsed-sound number l st (Instr address kind rd rs1 rs2 imm) s = call-sound l st s _ address
+
+steps-sound : (number : ℕ) (lines : List (List ℕ)) (l : Lent) (st : State) → Sound l st → Sound (steps number lines l st .lent) (steps number lines l st .state)
+unfolding steps step
+steps-sound number [] l st s = s
+steps-sound number (line ∷ lines) l st s = steps-sound (number + 1) lines _ _ (parsed-sound number l (emptied st) (parseLine line) (emptied-sound l st s))
+
+reached-sound : (lines : List (List ℕ)) → Sound (reached lines .lent) (reached lines .state)
+unfolding reached
+reached-sound lines = steps-sound _ lines startLent startState start-sound
+
+-- ---- the tests of a call
+
+and-false : (a : Bool) → (a && false) ≡ false
+and-false true = refl
+and-false false = refl
+
+counts-in : (l : Lent) (st : State) → Sound l st → let e = emptied st in countsOut (roomIn l) (e .tally) (e .counts) ≡ false
+unfolding countsOut roomOf emptied
+counts-in l st s =
+    let k = s .kept in
+    rw (le-ltb 1048576 (st .tally .lines) (omega (arith, k .lines)), le-ltb (2 ^ 31 + 2097152) (st .tally .nid) (omega (arith, k .lines, s .nids)), le-ltb (length (l .list) / 4) (st .tally .lines) (omega (arith, k .lines, k .list)), le-ltb (length (l .names)) (st .counts .names) (omega (arith, k .names, k .lines, k .badLines, k .nameBytes)), le-ltb (length (l .edges) / 4) 0 (omega arith), le-ltb (length (l .dispatches) / 2) 0 (omega arith), le-ltb (length (l .bads)) (st .counts .bads) (omega (arith, k .bads, k .lines, k .badLines)))
+
+flag-in : (l : Lent) (st : State) → Sound l st → (c : Class) (d s : Bool) → flagOut (l .list) (st .tally .lines) c d s (flag .0) ≡ false
+unfolding flagOut
+flag-in l st s c d x = rw (s .bit) (and-false (needsFlag c d x))
+
+pub own-number-or-full : OwnNumberOrFull
+unfolding refusalGiven
+own-number-or-full before i address =
+    let l = reached before .lent in
+    let st = emptied (reached before .state) in
+    let s = emptied-sound l (reached before .state) (reached-sound before) in
+    refusal-is l st i address flag
+    ∙ rw (counts-in l (reached before .state) (reached-sound before), s .roles, flag-in l st s (class (kindAt (i .kind))) (eqb (i .rd) 0) (eqb (i .rs1) 0), lines-decide before i address)
