@@ -18,8 +18,10 @@ use Rattle.riscv.specs.declared.Instruction.{Instruction}
 use Rattle.lowering_refusals.specs.declared.State.{State}
 use Rattle.lowering_refusals.specs.Refusal.{roomOf, roomOut}
 use Rattle.lowering.specs.Lowering.{Lent, Answer, countsAfter, roomIn, refused, lowering}
-use Rattle.lowering_laws.specs.Accepted.{needs}
-use Rattle.listing_bytes.specs.Storage.{mostLines, longestName, mostEdges, mostDispatches, edgeStride, dispatchStride, startLent}
+use Rattle.lowering_refusals.specs.Refusal.{needs}
+use Rattle.edges.specs.Edges.{edgeStride}
+use Rattle.edges.specs.Records.{dispatchStride}
+use Rattle.listing_bytes.specs.Storage.{listingLines, longestName, mostEdges, mostDispatches, startLent}
 use Rattle.listing_bytes.specs.Listing.{steps, reached}
 use Rattle.listing_bytes.specs.Laws.{LinesDecide}
 use Rattle.listing_bytes.proofs.Core.{Small, small, no-line-free, all-free, Grown, OneCall, stays, grows, one-call}
@@ -28,13 +30,13 @@ use Rattle.listing_bytes.proofs.Core.{Small, small, no-line-free, all-f
 
 pub record Kept (l : Lent) (st : State) : Type 0 where
   -- what is lent keeps its lengths
-  pub list : length (l .list) ≡ mostLines * stride
-  pub names : length (l .names) ≡ mostLines * longestName
+  pub list : length (l .list) ≡ listingLines * stride
+  pub names : length (l .names) ≡ listingLines * longestName
   pub edges : length (l .edges) ≡ mostEdges * edgeStride
   pub dispatches : length (l .dispatches) ≡ mostDispatches * dispatchStride
-  pub bads : length (l .bads) ≡ mostLines
+  pub bads : length (l .bads) ≡ listingLines
   -- each bad is a line, and has at most the longest name
-  pub lines : st .tally .lines ≤ mostLines
+  pub lines : st .tally .lines ≤ listingLines
   pub badLines : st .counts .bads ≤ st .tally .lines
   pub nameBytes : st .counts .names ≤ st .counts .bads * longestName
 
@@ -54,11 +56,11 @@ zeros n = length-replicate n 0
 pub start-kept : Kept startLent startState
 unfolding startLent startState
 start-kept = record {
-  list = let n = zeros (mostLines * stride) in start-length (replicate (mostLines * stride) 0) (omega (arith, n)) ∙ n;
-  names = zeros (mostLines * longestName);
+  list = let n = zeros (listingLines * stride) in start-length (replicate (listingLines * stride) 0) (omega (arith, n)) ∙ n;
+  names = zeros (listingLines * longestName);
   edges = zeros (mostEdges * edgeStride);
   dispatches = zeros (mostDispatches * dispatchStride);
-  bads = zeros mostLines;
+  bads = zeros listingLines;
   lines = omega arith;
   badLines = omega arith;
   nameBytes = omega arith;
@@ -117,17 +119,17 @@ reached-kept lines = steps-kept _ lines startLent startState start-kept
 
 module _ (l : Lent) (st : State) (k : Kept l st) (i : Instruction) (pc : ℕ) where
   lines-decide-here : let e = emptied st in
-      roomOut (roomIn l) (e .tally) (e .counts) (needs i pc) ≡ ltb mostLines (e .tally .lines + needs i pc .lines)
+      roomOut (roomIn l) (e .tally) (e .counts) (needs i pc) ≡ ltb listingLines (e .tally .lines + needs i pc .lines)
   unfolding roomOf emptied
   lines-decide-here =
       let n = needs i pc in
       let s = small i pc in
       let e = emptied st in
-      by-le (st .tally .lines + n .lines) mostLines
+      by-le (st .tally .lines + n .lines) listingLines
       (λ h.
-      rw (le-ltb mostLines (st .tally .lines + n .lines) h)
+      rw (le-ltb listingLines (st .tally .lines + n .lines) h)
       (all-free (roomIn l) (e .tally) (e .counts) n (omega arith) (omega (arith, k .list)) (omega (arith, k .names, k .nameBytes, k .badLines, s .nameBytes, s .badLines)) (omega (arith, k .edges, s .edges)) (omega (arith, k .dispatches, s .dispatches)) (omega (arith, k .bads, k .badLines, s .badLines))))
-      (λ h. rw (lt-ltb mostLines (st .tally .lines + n .lines) h) (no-line-free (roomIn l) (e .tally) (e .counts) n (omega (arith, k .list))))
+      (λ h. rw (lt-ltb listingLines (st .tally .lines + n .lines) h) (no-line-free (roomIn l) (e .tally) (e .counts) n (omega (arith, k .list))))
 
 pub lines-decide : LinesDecide
 lines-decide before i address = lines-decide-here (reached before .lent) (reached before .state) (reached-kept before) i address

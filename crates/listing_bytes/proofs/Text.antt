@@ -32,7 +32,7 @@ use Rattle.riscv.specs.declared.Instruction.{Instruction}
 use Rattle.lowering_refusals.specs.declared.State.{State}
 use Rattle.lowering.specs.Lowering.{Lent, Answer, countsAfter, lowering}
 use Rattle.lowering_laws.specs.Lines.{numbered}
-use Rattle.lowering_laws.specs.Accepted.{needs}
+use Rattle.lowering_refusals.specs.Refusal.{needs}
 use Rattle.listing_bytes.specs.Storage.{longestName, outRoom}
 use Rattle.listing_bytes.specs.Laws.{TextFits, TextWritten}
 use Rattle.listing_bytes.proofs.Core.{small, oneRow, oneRowEach, Grown, OneCall, stays, grows, one-call}

@@ -7,12 +7,11 @@ use lib.ListN.{length, take}
 use Rattle.listing_start.specs.Start.{concat}
 use Rattle.listing_step.specs.Step.{emptied, step}
 use Rattle.lowering.specs.Lowering.{Lent, roomIn}
-use Rattle.lowering_laws.specs.Accepted.{needs}
 use Rattle.lowering_refusals.specs.declared.State.{State}
-use Rattle.lowering_refusals.specs.Refusal.{roomOut}
+use Rattle.lowering_refusals.specs.Refusal.{needs, roomOut}
 use Rattle.text.specs.Put.{Put}
 use Rattle.riscv.specs.declared.Instruction.{Instruction}
-use Rattle.listing_bytes.specs.Storage.{mostLines, outRoom}
+use Rattle.listing_bytes.specs.Storage.{listingLines, outRoom}
 use Rattle.listing_bytes.specs.Listing.{reached, listing}
 use Rattle.listing_bytes.specs.Pieces.{Progress, andThen, takeBytes, takePieces, inputEnded, start}
 
@@ -35,4 +34,4 @@ TextWritten = (out text out′ : List ℕ) (n : ℕ) → length out ≡ outRoom 
 -- "with room for their bads and names": refusal 8 comes from the lines alone, whatever came before
 abbrev pub LinesDecide : Type 0
 LinesDecide = (before : List (List ℕ)) (i : Instruction) (address : ℕ) → let st = emptied (reached before .state) in
-    roomOut (roomIn (reached before .lent)) (st .tally) (st .counts) (needs i address) ≡ ltb mostLines (st .tally .lines + needs i address .lines)
+    roomOut (roomIn (reached before .lent)) (st .tally) (st .counts) (needs i address) ≡ ltb listingLines (st .tally .lines + needs i address .lines)

@@ -3,11 +3,13 @@
 use Prim.Native.Nat.{ℕ, _*_}
 use lib.ListN.{replicate}
 use Rattle.btor2_list.specs.Record.{stride}
+use Rattle.edges.specs.Edges.{edgeStride}
+use Rattle.edges.specs.Records.{dispatchStride}
 use Rattle.listing_start.specs.Start.{startIn}
 use Rattle.lowering.specs.Lowering.{Lent, lent}
 
-abbrev pub mostLines : ℕ
-mostLines = 1024
+abbrev pub listingLines : ℕ
+listingLines = 1024
 
 -- of a bad line: `unimplemented-pc-` and at most 16 digits
 abbrev pub longestName : ℕ
@@ -20,18 +22,11 @@ mostEdges = 2
 abbrev pub mostDispatches : ℕ
 mostDispatches = 1
 
--- the words of an edge (to, from, origin, condition) and of a dispatch (register, from)
-abbrev pub edgeStride : ℕ
-edgeStride = 4
-
-abbrev pub dispatchStride : ℕ
-dispatchStride = 2
-
 -- every line may be a bad one with the longest name
 unfoldable pub startLent : Lent
 startLent =
-    lent (startIn (replicate (mostLines * stride) 0)) (replicate (mostLines * longestName) 0) (replicate (mostEdges * edgeStride) 0)
-    (replicate (mostDispatches * dispatchStride) 0) (replicate mostLines 0)
+    lent (startIn (replicate (listingLines * stride) 0)) (replicate (listingLines * longestName) 0) (replicate (mostEdges * edgeStride) 0)
+    (replicate (mostDispatches * dispatchStride) 0) (replicate listingLines 0)
 
 -- "over 256 bytes": of a line one byte more is kept, so that a longer one is seen to be longer
 abbrev pub lineRoom : ℕ

@@ -20,9 +20,9 @@ use Rattle.nid_check.specs.Identifiers.{taken, rising, nidsOut}
 use Rattle.riscv.specs.Refusal.{first}
 use Rattle.roles_check.specs.RolesFit.{rolesFit}
 use Rattle.lowering_refusals.specs.declared.Room.{Room}
-use Rattle.lowering_refusals.specs.Refusal.{roomOf}
+use Rattle.lowering_refusals.specs.Refusal.{mostStartNid, roomOf, countsOut}
 use Rattle.lowering_laws.specs.Lines.{numbered}
-use Rattle.start.specs.Start.{startCountsOut, startRefusal}
+use Rattle.start.specs.Start.{startRefusal}
 use Rattle.listing_start.specs.Start.{startNames, concat, hostArea, startName, namedStates, startOps, records, startWords, startIn, fromOn, startRoles, startState}
 use Rattle.meaning.specs.Lines.{operators}
 use Rattle.demand.specs.Demand3.{registerNodeValue}
@@ -77,8 +77,8 @@ start-lines words h = lines-put words h
 
 -- ---- the check
 
-counted : (room : Room) → 39 ≤ room .lines → startCountsOut room (startState .tally) (startState .counts) ≡ false
-unfolding startCountsOut startState
+counted : (room : Room) → 39 ≤ room .lines → countsOut mostStartNid room (startState .tally) (startState .counts) ≡ false
+unfolding startState
 counted room h =
     rw (le-ltb (room .lines) 39 h, le-ltb (room .names) 0 (omega arith), le-ltb (room .edges) 0 (omega arith), le-ltb (room .dispatches) 0 (omega arith), le-ltb (room .bads) 0 (omega arith))
 

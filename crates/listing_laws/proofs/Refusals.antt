@@ -15,9 +15,8 @@ use Rattle.btor2_list.specs.View.{view}
 use Rattle.btor2_list.specs.Look.{seen, lookAt}
 use Rattle.btor2_list.proofs.Seen.{look-line}
 use Rattle.btor2_list.proofs.View.{view-length}
-use Rattle.instruction_class.specs.declared.Class.{Class}
-use Rattle.instruction_class.specs.Class.{class, needsFlag}
-use Rattle.listing_bytes.specs.Storage.{mostLines, startLent}
+use Rattle.instruction_class.specs.Class.{needsFlag}
+use Rattle.listing_bytes.specs.Storage.{listingLines, startLent}
 use Rattle.listing_bytes.specs.Listing.{steps, reached}
 use Rattle.listing_bytes.proofs.Room.{Kept, zeros, start-kept, emptied-kept, call-kept, lines-decide}
 use Rattle.listing_bytes.proofs.Core.{one-call}
@@ -27,13 +26,13 @@ use Rattle.listing_line.specs.Line.{parseLine}
 use Rattle.listing_start.specs.Start.{firstNid, startLines, placed, startNames, concat, startName, namedStates, startOps, startIn, startState}
 use Rattle.listing_step.specs.Step.{emptied, parsedStep, step}
 use Rattle.lowering_refusals.specs.declared.State.{State}
-use Rattle.lowering_refusals.specs.Refusal.{roomOf, countsOut, flagOut, refusalGiven, refusalOf}
+use Rattle.lowering_refusals.specs.Refusal.{mostLines, mostNid, roomOf, countsOut, flagOut, refusalGiven, refusalOf}
 use Rattle.lowering.specs.Lowering.{Lent, roomIn, lowering}
 use Rattle.lowering_laws.specs.Lines.{numbered}
 use Rattle.lowering_laws.proofs.OneCall.{when-accepted, when-refused}
 use Rattle.riscv.specs.declared.Instruction.{Instruction}
 use Rattle.riscv.specs.Kind.{kindAt}
-use Rattle.roles_check.specs.RolesFit.{valueNumber, rolesFit}
+use Rattle.roles_check.specs.RolesFit.{valueSort, rolesFit}
 use Rattle.roles_kept.proofs.Call.{refusal-is, roled-after, roles-keep}
 use Rattle.listing_laws.specs.Refusals.{OwnNumberOrFull}
 use Rattle.listing_laws.proofs.Accepted.{lines-put, roles-put, given}
@@ -47,7 +46,7 @@ pub record Sound (l : Lent) (st : State) : Type 0 where
   pub nids : st .tally .nid ≡ st .tally .lines + firstNid
   pub size : length (st .roles) ≡ 79
   pub roles : rolesFit (l .list) (st .tally .lines) 0 (st .roles) ≡ true
-  pub bit : valueNumber (lookAt (l .list) (st .tally .lines) (flag .0)) ≡ 1
+  pub bit : valueSort (lookAt (l .list) (st .tally .lines) (flag .0)) ≡ 1
 
 nowhere : Node
 nowhere = node 0 unknown
@@ -57,15 +56,15 @@ held l st k = omega (arith, k .list, k .lines)
 
 -- ---- the start
 
-flag-line : valueNumber (seen (getD (numbered firstNid startOps) (flag .0) nowhere)) ≡ 1
+flag-line : valueSort (seen (getD (numbered firstNid startOps) (flag .0) nowhere)) ≡ 1
 unfolding startNames concat startName namedStates startOps numbered carried
 flag-line = refl
 
 start-sound : Sound startLent startState
 unfolding startLent startState
 start-sound =
-    let ws = replicate {A = ℕ} (mostLines * stride) 0 in
-    let room : startLines * stride ≤ length ws = omega (arith, zeros (mostLines * stride)) in
+    let ws = replicate {A = ℕ} (listingLines * stride) 0 in
+    let room : startLines * stride ≤ length ws = omega (arith, zeros (listingLines * stride)) in
     record {
       kept = start-kept;
       begun = omega arith;
@@ -73,8 +72,8 @@ start-sound =
       size = given;
       roles = not-false _ (roles-put ws room);
       bit =
-          ap valueNumber (look-line (startIn ws) startLines (held startLent startState start-kept) (flag .0) nowhere (omega arith))
-          ∙ ap (λ (v : List Node). valueNumber (seen (getD v (flag .0) nowhere))) (lines-put ws room) ∙ flag-line;
+          ap valueSort (look-line (startIn ws) startLines (held startLent startState start-kept) (flag .0) nowhere (omega arith))
+          ∙ ap (λ (v : List Node). valueSort (seen (getD v (flag .0) nowhere))) (lines-put ws room) ∙ flag-line;
     }
 
 -- ---- a call
@@ -91,10 +90,10 @@ module _ (l : Lent) (st : State) (s : Sound l st) (i : Instruction) (pc : ℕ) w
         size = roled-after l st i pc flag (s .size) e .size;
         roles = roles-keep l st i pc flag (s .size) (a .refusal);
         bit =
-            ap valueNumber (look-line _ _ (held _ _ kept) (flag .0) nowhere (omega (arith, a .lines, s .begun)))
-            ∙ ap (λ (v : List Node). valueNumber (seen (getD v (flag .0) nowhere))) (a .nodes)
-            ∙ ap (λ (n : Node). valueNumber (seen n)) (List·getD-append (view (l .list) (st .tally .lines)) _ nowhere (flag .0) (omega (arith, view-length (l .list) (st .tally .lines), s .begun)))
-            ∙ sym (ap valueNumber (look-line (l .list) (st .tally .lines) (held l st (s .kept)) (flag .0) nowhere (omega (arith, s .begun)))) ∙ s .bit;
+            ap valueSort (look-line _ _ (held _ _ kept) (flag .0) nowhere (omega (arith, a .lines, s .begun)))
+            ∙ ap (λ (v : List Node). valueSort (seen (getD v (flag .0) nowhere))) (a .nodes)
+            ∙ ap (λ (n : Node). valueSort (seen n)) (List·getD-append (view (l .list) (st .tally .lines)) _ nowhere (flag .0) (omega (arith, view-length (l .list) (st .tally .lines), s .begun)))
+            ∙ sym (ap valueSort (look-line (l .list) (st .tally .lines) (held l st (s .kept)) (flag .0) nowhere (omega (arith, s .begun)))) ∙ s .bit;
       }
 
   call-sound : Sound (lowering l st i pc flag .lent) (lowering l st i pc flag .lowered .state)
@@ -129,15 +128,15 @@ and-false : (a : Bool) → (a && false) ≡ false
 and-false true = refl
 and-false false = refl
 
-counts-in : (l : Lent) (st : State) → Sound l st → let e = emptied st in countsOut (roomIn l) (e .tally) (e .counts) ≡ false
-unfolding countsOut roomOf emptied
+counts-in : (l : Lent) (st : State) → Sound l st → let e = emptied st in countsOut mostNid (roomIn l) (e .tally) (e .counts) ≡ false
+unfolding roomOf emptied
 counts-in l st s =
     let k = s .kept in
-    rw (le-ltb 1048576 (st .tally .lines) (omega (arith, k .lines)), le-ltb (2 ^ 31 + 2097152) (st .tally .nid) (omega (arith, k .lines, s .nids)), le-ltb (length (l .list) / 4) (st .tally .lines) (omega (arith, k .lines, k .list)), le-ltb (length (l .names)) (st .counts .names) (omega (arith, k .names, k .lines, k .badLines, k .nameBytes)), le-ltb (length (l .edges) / 4) 0 (omega arith), le-ltb (length (l .dispatches) / 2) 0 (omega arith), le-ltb (length (l .bads)) (st .counts .bads) (omega (arith, k .bads, k .lines, k .badLines)))
+    rw (le-ltb mostLines (st .tally .lines) (omega (arith, k .lines)), le-ltb mostNid (st .tally .nid) (omega (arith, k .lines, s .nids)), le-ltb (length (l .list) / 4) (st .tally .lines) (omega (arith, k .lines, k .list)), le-ltb (length (l .names)) (st .counts .names) (omega (arith, k .names, k .lines, k .badLines, k .nameBytes)), le-ltb (length (l .edges) / 4) 0 (omega arith), le-ltb (length (l .dispatches) / 2) 0 (omega arith), le-ltb (length (l .bads)) (st .counts .bads) (omega (arith, k .bads, k .lines, k .badLines)))
 
-flag-in : (l : Lent) (st : State) → Sound l st → (c : Class) (d s : Bool) → flagOut (l .list) (st .tally .lines) c d s (flag .0) ≡ false
+flag-in : (l : Lent) (st : State) → Sound l st → (i : Instruction) → flagOut (l .list) (st .tally .lines) i (flag .0) ≡ false
 unfolding flagOut
-flag-in l st s c d x = rw (s .bit) (and-false (needsFlag c d x))
+flag-in l st s i = rw (s .bit) (and-false (needsFlag (kindAt (i .kind)) (eqb (i .rd) 0) (eqb (i .rs1) 0)))
 
 pub own-number-or-full : OwnNumberOrFull
 unfolding refusalGiven
@@ -146,4 +145,4 @@ own-number-or-full before i address =
     let st = emptied (reached before .state) in
     let s = emptied-sound l (reached before .state) (reached-sound before) in
     refusal-is l st i address flag
-    ∙ rw (counts-in l (reached before .state) (reached-sound before), s .roles, flag-in l st s (class (kindAt (i .kind))) (eqb (i .rd) 0) (eqb (i .rs1) 0), lines-decide before i address)
+    ∙ rw (counts-in l (reached before .state) (reached-sound before), s .roles, flag-in l st s i, lines-decide before i address)

@@ -4,12 +4,12 @@ use mathlib.Core.Path.{_≡_}
 use mathlib.Core.Bool.{not}
 use mathlib.Core.List.{List, [], _∷_}
 use lib.Dec.{eqb, ltb}
-use Rattle.listing_bytes.specs.Storage.{mostLines}
+use Rattle.listing_bytes.specs.Storage.{listingLines}
 use Rattle.listing_bytes.specs.Listing.{reached}
 use Rattle.listing_start.specs.Start.{placed}
 use Rattle.listing_step.specs.Step.{emptied}
 use Rattle.lowering.specs.Lowering.{lowering}
-use Rattle.lowering_laws.specs.Accepted.{needs}
+use Rattle.lowering_refusals.specs.Refusal.{needs}
 use Rattle.riscv.specs.declared.Instruction.{Instruction}
 use Rattle.riscv.specs.Refusal.{refusal, first}
 
@@ -17,4 +17,4 @@ use Rattle.riscv.specs.Refusal.{refusal, first}
 abbrev pub OwnNumberOrFull : Type 0
 OwnNumberOrFull = (before : List (List ℕ)) (i : Instruction) (address : ℕ) → let st = emptied (reached before .state) in
     lowering (reached before .lent) st i address (placed 58) .lowered .refusal
-    ≡ first ((not (eqb (refusal i) 0), refusal i) ∷ (ltb mostLines (st .tally .lines + needs i address .lines), 8) ∷ [])
+    ≡ first ((not (eqb (refusal i) 0), refusal i) ∷ (ltb listingLines (st .tally .lines + needs i address .lines), 8) ∷ [])

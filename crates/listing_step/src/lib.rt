@@ -2,9 +2,9 @@
 use btor2::NodeRef;
 use listing_line::Parsed;
 use listing_line::parse;
+use lowering_calls::lower;
 use lowering_refusals::Counts;
 use lowering_refusals::State;
-use lowering_calls::lower;
 use riscv::Instruction;
 ghost use mathlib.Core.Path.{_≡_};
 ghost use mathlib.Core.List.{_++_};
