@@ -1,4 +1,4 @@
--- Each line starts behind the one before. Assumes nothing.
+-- Each line starts after the one before. Assumes nothing.
 use Prim.Native.Nat.{_-_}
 use lib.ListN.{length}
 use borrow.Author.Needs.{needs}
