@@ -43,9 +43,10 @@ class Line:
         number = KIND[kind] if isinstance(kind, str) else kind
         ops = (*operands, 0, 0, 0)[:3]
         self.given = (nid, number, sort, *ops, imm, *name)
-        # the record has four bytes for the identifier, and one each for the kind, the sort, the mark of a State's init and the area of a name
+        # the record has four bytes for the identifier and one each for the kind, the sort and the area of a name: what does not fit is stored
+        # as the largest that does. The init of a State is marked by 1
         area, *part = name
-        self.words = (nid % 2**32, number % 256, sort % 256, *ops, imm % 256 if number == KIND["State"] else imm, area % 256, *part)
+        self.words = (min(nid, 2**32 - 1), min(number, 255), min(sort, 255), *ops, min(imm, 1) if number == KIND["State"] else imm, min(area, 255), *part)
 
     @property
     def nid(self):
