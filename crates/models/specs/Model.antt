@@ -11,7 +11,7 @@ use Rattle.program.specs.Prog.{Prog, done, _>>=_}
 use Rattle.program.specs.OneLine.{newBin, newIte, newEq, newAndWord, newBad}
 use Rattle.builder_ops.specs.Composed.{newNeq, newUgte, newSlt, newSgte, newOr, newXor, newSra}
 use Rattle.models.specs.Places.{Operands, Flows, Outcome, Modeled, nothing, register, memory, branch, gives}
-use Rattle.models.specs.Counters.{load, store, modelLd, modelSd}
+use Rattle.models.specs.Counters.{modelLoad, modelStore, modelLd, modelSd}
 use Rattle.models.specs.Kinds.{constant, link, withConstant, modelAddi, modelAddiw, modelSltiu, modelSlliw, shiftedBack, withRegister, modelSltu, shifted, modelSllw, summed, summedWord, modelMul, modelMulw, divided, modelDivw, modelRemu, modelBranch, modelEcall}
 
 -- `((imm as i32) << 12) as u64`
@@ -42,15 +42,15 @@ module _ {A : Type 0} where
   abbrev pub model : Operands A → Flows A → ℕ → Kind → Bool → Bool → Bool → Prog A (Modeled A)
   model e f imm Lui z d s = constant f imm
   model e f imm Auipc z d s = constant f imm
-  model e f imm Lb z d s = load e f z imm 56 true
-  model e f imm Lh z d s = load e f z imm 48 true
-  model e f imm Lw z d s = load e f z imm 32 true
+  model e f imm Lb z d s = modelLoad e f z imm 56 true
+  model e f imm Lh z d s = modelLoad e f z imm 48 true
+  model e f imm Lw z d s = modelLoad e f z imm 32 true
   model e f imm Ld z d s = modelLd e f z imm
-  model e f imm Lbu z d s = load e f z imm 56 false
-  model e f imm Lhu z d s = load e f z imm 48 false
-  model e f imm Sb z d s = store e f z imm (2 ^ 8 - 1)
-  model e f imm Sh z d s = store e f z imm (2 ^ 16 - 1)
-  model e f imm Sw z d s = store e f z imm (2 ^ 32 - 1)
+  model e f imm Lbu z d s = modelLoad e f z imm 56 false
+  model e f imm Lhu z d s = modelLoad e f z imm 48 false
+  model e f imm Sb z d s = modelStore e f z imm (2 ^ 8 - 1)
+  model e f imm Sh z d s = modelStore e f z imm (2 ^ 16 - 1)
+  model e f imm Sw z d s = modelStore e f z imm (2 ^ 32 - 1)
   model e f imm Sd z d s = modelSd e f z imm
   model e f imm Addi z d s = modelAddi d z s e f imm
   model e f imm Sltiu z d s = modelSltiu e f imm
