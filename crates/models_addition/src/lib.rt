@@ -16,7 +16,15 @@ ghost use Rattle.builder.specs.Gives.{Gives};
 ghost use Rattle.models.specs.Code.{operandsOf, flowsOf, modeledOf};
 
 // What Addi gives: rs1 where imm is 0, a second constant where rs1 is x0, else the sum.
-fn addi_result(list: &mut [u64], t: Tally, z: bool, s: bool, imm: u64, rs1: NodeRef, c: NodeRef) -> Made
+fn addi_result(
+    list: &mut [u64],
+    t: Tally,
+    z: bool,
+    s: bool,
+    imm: u64,
+    rs1: NodeRef,
+    c: NodeRef,
+) -> Made
     ensures { λ r. ⌜ Gives (now (list .entry)) t (addiResult z s imm (rs1 .0) (c .0)) (now (list .exit)) (r .tally) (r .node .0) ⌝ }
 {
     if z {
