@@ -6,7 +6,7 @@ use lib.Dec.{eqb, ltb}
 use Rattle.btor2.specs.declared.Name.{Name}
 use Rattle.btor2.specs.declared.NodeType.the-variants.{Word, Memory}
 use Rattle.btor2.specs.Op.{add, sub, udiv, sdiv, sll, srl, ult}
-use Rattle.riscv.specs.Kind.{Kind, Lui, Auipc, Lb, Lh, Lw, Ld, Lbu, Lhu, Sb, Sh, Sw, Sd, Addi, Sltiu, Xori, Ori, Andi, Slli, Srli, Srai, Addiw, Slliw, Srliw, Sraiw, Add, Sub, Sll, Sltu, Srl, Sra, Or, And, Mul, Div, Divu, Remu, Addw, Divw, Subw, Sllw, Mulw, Beq, Bne, Blt, Bge, Bltu, Bgeu, Jal, Jalr, Ecall, number, oneOf}
+use Rattle.riscv.specs.Kind.{Kind, Lui, Auipc, Lb, Lh, Lw, Ld, Lbu, Lhu, Sb, Sh, Sw, Sd, Addi, Sltiu, Xori, Ori, Andi, Slli, Srli, Srai, Addiw, Slliw, Srliw, Sraiw, Add, Sub, Sll, Sltu, Srl, Sra, Or, And, Mul, Div, Divu, Remu, Addw, Divw, Subw, Sllw, Mulw, Beq, Bne, Blt, Bge, Bltu, Bgeu, Jal, Jalr, Ecall, kindNumber, oneOf}
 use Rattle.program.specs.Prog.{Prog, done, _>>=_}
 use Rattle.program.specs.OneLine.{newBin, newIte, newEq, newAndWord, newBad}
 use Rattle.builder_ops.specs.Composed.{newNeq, newUgte, newSlt, newSgte, newOr, newXor, newSra}
@@ -21,7 +21,7 @@ upper imm = cond (ltb (imm % 2 ^ 20) (2 ^ 19)) (imm % 2 ^ 20 * 2 ^ 12) (imm % 2 
 -- what a table has for a kind, or x where it has no row for it
 abbrev pub inTable : ℕ → Kind → List (Kind × ℕ) → ℕ
 inTable x k [] = x
-inTable x k (row ∷ rows) = cond (eqb (number k) (number (row .0))) (row .1) (inTable x k rows)
+inTable x k (row ∷ rows) = cond (eqb (kindNumber k) (kindNumber (row .0))) (row .1) (inTable x k rows)
 
 -- the constant that a kind's lines have: its immediate, but for these kinds
 unfoldable pub constantOf : Kind → ℕ → ℕ → ℕ

@@ -5,7 +5,7 @@ use mathlib.Core.Bool.{false}
 use mathlib.Core.List.{List, [], _∷_}
 use lib.Dec.{T, eqb, lit<}
 use Rattle.bitvec.proofs.LastArm.{among, differs}
-use Rattle.riscv.specs.Kind.{kindAt, number}
+use Rattle.riscv.specs.Kind.{kindAt, kindNumber}
 use Rattle.riscv.proofs.Numbered.{told}
 use Rattle.models.specs.Model.{constantOf}
 use borrow.Author.Needs.{needs}
@@ -52,7 +52,7 @@ returns-9 : tie.Need-returns-9
 unfolding constantOf
 returns-9 c =
     let n = c .before .args .kind in
-    let other : (m : ℕ) → m < 49 → T (among m arms) → eqb (number (kindAt n)) m ≡ false = λ m h t. told n m h ∙ differs arms n (c .match .rest) m t in
+    let other : (m : ℕ) → m < 49 → T (among m arms) → eqb (kindNumber (kindAt n)) m ≡ false = λ m h t. told n m h ∙ differs arms n (c .match .rest) m t in
     rw (other 0 (lit< tt) tt, other 1 (lit< tt) tt, other 19 (lit< tt) tt, other 21 (lit< tt) tt, other 22 (lit< tt) tt, other 23 (lit< tt) tt, other 47 (lit< tt) tt, other 48 (lit< tt) tt)
 
 pub constant-of-spec : {M : Type 1} → statement M
