@@ -122,7 +122,8 @@ pub enum Looked {
     Value(Nid, NodeType),
 }
 
-// Stores a record at a place. Where the words do not reach that far, answers false and changes nothing.
+// Stores a record at a place; a number that its field cannot hold, as the largest that it can. Where the words do not reach that far, answers
+// false and changes nothing.
 pub fn put(list: &mut [u64], place: NodeRef, line: Line) -> bool
     ensures stored { λ r. ⌜ r ≡ holds (now (list .entry)) (place .0) ⌝ }
     ensures list { λ r. ⌜ now (list .exit) ≡ putAt (now (list .entry)) (place .0) line ⌝ }
