@@ -42,12 +42,12 @@ def commands():
         if place < HOLDS:
             nid, kind, sort, op1, op2, op3, imm, area, at, length = fields
             name = KINDS[kind - 1] if 1 <= kind <= len(KINDS) else None
-            # the value of a Const, and the place and the length of a name, stand where other lines have operands; kind, sort, area and
-            # the mark of a State's init have a byte each, and the identifier has four
+            # the value of a Const, and the place and the length of a name, stand where other lines have operands; kind, sort and area
+            # have a byte each and the identifier has four: what does not fit is stored as the largest that does. An init is marked by 1
             first = imm if name == "Const" else op1
             others = [at, length] if name in NAMED else [op2, op3]
-            mark = imm % 256 if name == "State" else 0
-            records[place] = [nid % 2**32, kind % 256, sort % 256, first, *others, mark if kind % 256 == 19 else first, area % 256, *others]
+            last = (1 if imm else 0) if name == "State" else first
+            records[place] = [min(nid, 2**32 - 1), min(kind, 255), min(sort, 255), first, *others, last, min(area, 255), *others]
         return (1, place, *fields), "put" if place < HOLDS else "outside"
 
     def get(place):
@@ -75,8 +75,24 @@ def commands():
         for sort in (0, 1, 2, 3, 4, 10, 11, 17, 18, TOP):
             yield put(1, 100 + kind % 100, kind, sort, 0, 0, 0, 0, 0, 0, 0)
             yield look(4, 1)
-    for init in (0, 1, 2):
+    for kind in (254, 255, 256, 257, 256 + 19, TOP):  # 257 is not 1, a Const, and 275 is not a State
+        yield put(1, 55, kind, 2, 7, 8, 9, 6, 1, 0, 4)
+        yield get(1)
+        yield look(2, 1)
+    for sort in (254, 255, 256, 257, TOP):  # 257 is not 1, a Bit
+        yield put(1, 55, 1, sort, 7, 8, 9, 6, 1, 0, 4)
+        yield get(1)
+        yield look(2, 1)
+    for area in (254, 255, 256, 257, TOP):  # 257 is not 1, the host's
+        yield put(1, 55, 21, 2, 7, 8, 9, 6, area, 0, 4)
+        yield get(1)
+    for nid in (2**32 - 2, 2**32 - 1, 2**32, 2**32 + 20, TOP):
+        yield put(1, nid, 1, 2, 7, 8, 9, 6, 0, 0, 0)
+        yield get(1)
+        yield look(2, 1)
+    for init in (0, 1, 2, 255, 256, TOP):
         yield put(1, 55, 19, 2, 7, 8, 9, init, 1, 0, 4)
+        yield get(1)
         yield look(2, 1)
     for lines, place in ((0, 0), (1, 1), (2, 1), (4, 3), (5, 4), (TOP, 4), (TOP, TOP)):
         yield look(lines, place)

@@ -180,8 +180,6 @@ def drawn(seed):
     while len(lines) < 40:
         kind = draw.choice(KINDS)
         imm = draw.choice((0, 1, 10**draw.randrange(20), draw.randrange(2**64)))
-        if kind == "State":
-            imm %= 256  # the mark of an init has one byte
         if operands(kind, imm) and not values:
             continue
         sort = draw.choice([s for s in SORTS if not (kind == "Ext" and s == 3)] if kind in OWN_SORT else (0, 5, draw.randrange(2**64)))
@@ -221,12 +219,12 @@ def cases():
         c.print(count, 0, 1)
         c.print(count, 0, count)
     for place in (0, n - 1, n):  # the last is no line of the list
-        for nid in (MOST_NID, MOST_NID + 1, TOP):
+        for nid in (MOST_NID, MOST_NID + 1, 2**32 + 20, TOP):
             for _ in c.with_line(place, [nid, *c.records[place][1:]]):
                 c.print(n, 2, 3)
     # 11: kinds and sorts
-    for kind in (0, *range(1, 23), 23, TOP):
-        for sort in (0, 1, 2, 3, 4, 10, 11, 17, 18, TOP):
+    for kind in (0, *range(1, 23), 23, 257, TOP):
+        for sort in (0, 1, 2, 3, 4, 10, 11, 17, 18, 257, TOP):
             for _ in c.with_line(n, record(500, kind, sort, (0, 0, 0), 0)):
                 c.print(n + 1, n, 1)
     # 11: operands, each in turn at its own line, a later one, one that carries no value, outside; and the same where it is not looked at
@@ -242,7 +240,7 @@ def cases():
                         c.print(n + 1, n, 1)
     # 11: names
     for kind in ("State", "Input", "Bad", "Not"):
-        for area in (0, 1, 2, 3, TOP):
+        for area in (0, 1, 2, 3, 257, TOP):
             for at, length in ((0, 19), (0, 20), (19, 0), (20, 0), (1, 18), (1, 19), (26, 0), (27, 0), (0, 26), (0, 27), (TOP, 1), (1, TOP), (TOP, TOP)):
                 for _ in c.with_line(n, record(500, kind, 2, (first_value,) * 3, 0, (area, at, length))):
                     c.print(n + 1, n, 1)

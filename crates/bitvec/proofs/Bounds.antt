@@ -10,7 +10,7 @@ use lib.Pow.{pow-pos, pow-add, ones-sub-lt, ones-lt}
 use lib.Bits.{and-le-l, or-lt}
 use Rattle.bitvec.specs.Smtlib.{bvadd, bvsub, bvmul, bvneg, bvnot, bvand, bvudiv, bvurem, bvsdiv, bvlshr, bvult, bvor, bvcomp, bit}
 use Rattle.bitvec.specs.TwosComplement.{sext, sra, sltu, slt, signed, bitsOf, quot}
-use Rattle.bitvec.specs.Bytes.{byteOf, load, store}
+use Rattle.bitvec.specs.Bytes.{byteOf, loadBytes, storeBytes}
 use Rattle.bitvec.proofs.Composed.{sraLines}
 use Rattle.bitvec.proofs.Base.{by-le, by-signs, neg-yes, neg-no, lshr-is, lshr-past}
 use Rattle.bitvec.proofs.Shift.{sra-lines}
@@ -66,8 +66,8 @@ unfolding sraLines
 sra-fits w {x} {n} h l = rw (← (sra-lines w x n h l)) (sub-fits w _ _)
 
 -- of any bytes: a load of n bytes is below 2 ^ (8 n)
-pub load-fits : (bytes : ℕ → ℕ) → ((i : ℕ) → bytes i < 256) → (a n : ℕ) → load bytes a n < 2 ^ (8 * n)
-unfolding load
+pub load-fits : (bytes : ℕ → ℕ) → ((i : ℕ) → bytes i < 256) → (a n : ℕ) → loadBytes bytes a n < 2 ^ (8 * n)
+unfolding loadBytes
 load-fits bytes h a zero = pow-pos 0
 load-fits bytes h a (suc n) = rw (mul-suc 8 n, pow-add 2 (8 * n) 8) (omega (arith, load-fits bytes h (suc a) n, h a))
 
@@ -75,8 +75,8 @@ pub byte-fits : (v i : ℕ) → byteOf v i < 256
 unfolding byteOf
 byte-fits v i = mod-lt (v / 2 ^ (8 * i)) (lit< tt)
 
-pub store-fits : (bytes : ℕ → ℕ) → ((i : ℕ) → bytes i < 256) → (a n v i : ℕ) → store bytes a n v i < 256
-unfolding store
+pub store-fits : (bytes : ℕ → ℕ) → ((i : ℕ) → bytes i < 256) → (a n v i : ℕ) → storeBytes bytes a n v i < 256
+unfolding storeBytes
 store-fits bytes h a n v i = go (leb a i && ltb i (a + n))
   where
     go : (t : Bool) → elim t as (λ _. ℕ) [ true ↦ byteOf v (i - a) | false ↦ bytes i ] < 256

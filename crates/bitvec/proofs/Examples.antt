@@ -3,7 +3,7 @@ use mathlib.Core.Path.{_≡_, refl}
 use Prim.Native.Nat.{_+_, _-_, _*_, _^_}
 use Rattle.bitvec.specs.Smtlib.{bvadd, bvsub, bvmul, bvneg, bvnot, bvand, bvudiv, negative, bvsdiv, bvshl, bvlshr}
 use Rattle.bitvec.specs.TwosComplement.{sext, signed, bitsOf, quot}
-use Rattle.bitvec.specs.Bytes.{byteOf, load}
+use Rattle.bitvec.specs.Bytes.{byteOf, loadBytes}
 use Rattle.bitvec.proofs.Composed.{orLines, sraLines, loadSignedLines, mask, storeLines}
 
 a-huge-amount : bvshl 64 1 (2 ^ 63) + bvlshr 64 1 (2 ^ 63) ≡ 0
@@ -38,8 +38,8 @@ sh-at-2 : storeLines 0x1122334455667788 2 2 0xaabb ≡ 0x11223344aabb7788
 unfolding storeLines mask orLines bvand bvnot bvmul bvshl
 sh-at-2 = refl
 
-lw-at-3 : load (byteOf 0x1122334455667788) 3 4 ≡ 0x22334455
-unfolding load byteOf
+lw-at-3 : loadBytes (byteOf 0x1122334455667788) 3 4 ≡ 0x22334455
+unfolding loadBytes byteOf
 lw-at-3 = refl
 
 -- the one quotient at which Divw's lines are not the manual's: -2 ^ 31 by -1 gives 2 ^ 31, and not -2 ^ 31

@@ -1,6 +1,7 @@
 pub mod Composed
 pub mod Base
 pub mod Below
+pub mod LastArm
 pub mod Logic
 pub mod Shift
 pub mod Sext

@@ -8,7 +8,7 @@ use lib.Pow.{pow-pos, pow-mono, mod-pow-add, shr-shr, field, high, low, ones-lt,
 use lib.Bits.{bitAnd, and-block, and-mask, and-high, and-lt, and-le-l, or-block, or-shifted-r}
 use Rattle.bitvec.specs.Smtlib.{bvsub, bvmul, bvnot, bvand, bvshl}
 use Rattle.bitvec.specs.TwosComplement.{sext}
-use Rattle.bitvec.specs.Bytes.{byteOf, load, store}
+use Rattle.bitvec.specs.Bytes.{byteOf, loadBytes, storeBytes}
 use Rattle.bitvec.proofs.Composed.{orLines, loadLines, loadSignedLines, mask, storeLines}
 use Rattle.bitvec.proofs.Base.{by-le, mod-low, pow-sum, sub-ge, shl-is, shl-fits, shr-below}
 use Rattle.bitvec.proofs.Logic.{or-lines}
@@ -18,19 +18,19 @@ use Rattle.bitvec.proofs.Sext.{sext-mod}
 -- ---- loads
 
 -- the bytes' value is a field of bits
-pub load-is : (c o n : ℕ) → load (byteOf c) o n ≡ c / 2 ^ (8 * o) % 2 ^ (8 * n)
-unfolding load byteOf
+pub load-is : (c o n : ℕ) → loadBytes (byteOf c) o n ≡ c / 2 ^ (8 * o) % 2 ^ (8 * n)
+unfolding loadBytes byteOf
 load-is c o zero = sym (mod-one (c / 2 ^ (8 * o)))
 load-is c o (suc n) =
     rw (load-is c (suc o) n, byteOf, mul-suc 8 o, mul-suc 8 n, ← (shr-shr c (8 * o) 8), mod-pow-add (c / 2 ^ (8 * o)) (8 * n) 8)
 
 -- a word is its eight bytes
-pub load-whole : (c : ℕ) → c < 2 ^ 64 → load (byteOf c) 0 8 ≡ c
+pub load-whole : (c : ℕ) → c < 2 ^ 64 → loadBytes (byteOf c) 0 8 ≡ c
 load-whole c h = load-is c 0 8 ∙ rw div-one (mod-eq-of-lt h)
 
 -- and a load sees no more of the bytes than what each is
-pub load-same : {f g : ℕ → ℕ} (a n : ℕ) → ((i : ℕ) → f i ≡ g i) → load f a n ≡ load g a n
-load-same a n e = ap (λ (f : ℕ → ℕ). load f a n) (fun-ext e)
+pub load-same : {f g : ℕ → ℕ} (a n : ℕ) → ((i : ℕ) → f i ≡ g i) → loadBytes f a n ≡ loadBytes g a n
+load-same a n e = ap (λ (f : ℕ → ℕ). loadBytes f a n) (fun-ext e)
 
 mul-8 : {o : ℕ} → o ≤ 8 → bvmul 64 8 o ≡ 8 * o
 unfolding bvmul
@@ -39,12 +39,12 @@ mul-8 h = mod-eq-of-lt (omega arith)
 amount : (o n : ℕ) → o + n ≤ 8 → bvsub 64 (64 - 8 * n) (bvmul 64 8 o) ≡ 64 - 8 * n - 8 * o
 amount o n h = rw (mul-8 {o = o} (omega arith)) (sub-ge 64 (omega arith) (omega arith))
 
-pub load-lines : (c o n : ℕ) → zero < n → o + n ≤ 8 → loadLines c o n ≡ load (byteOf c) o n
+pub load-lines : (c o n : ℕ) → zero < n → o + n ≤ 8 → loadLines c o n ≡ loadBytes (byteOf c) o n
 unfolding loadLines
 load-lines c o n h l =
     rw (amount o n l, load-is c o n) (lshr-shl (8 * n) (8 * o) (64 - 8 * n - 8 * o) c (omega arith) (omega arith) (omega arith))
 
-pub load-signed-lines : (c o n : ℕ) → zero < n → o + n ≤ 8 → loadSignedLines c o n ≡ sext (8 * n) 64 (load (byteOf c) o n)
+pub load-signed-lines : (c o n : ℕ) → zero < n → o + n ≤ 8 → loadSignedLines c o n ≡ sext (8 * n) 64 (loadBytes (byteOf c) o n)
 unfolding loadSignedLines
 load-signed-lines c o n h l =
     rw (amount o n l, load-is c o n, sext-mod, sra-lines 64 (bvshl 64 c s) (64 - 8 * n) (shl-fits 64 c s) (omega arith))
@@ -152,17 +152,17 @@ module _ (c o n v : ℕ) where
       tops : stored / 2 ^ (8 * (o + n)) ≡ c / 2 ^ (8 * (o + n))
       tops = rw (mul-add 8 o n) (put-high (8 * n) (8 * o) c v)
 
-  pub store-byte : (i : ℕ) → byteOf stored i ≡ store (byteOf c) o n v i
-  unfolding store
+  pub store-byte : (i : ℕ) → byteOf stored i ≡ storeBytes (byteOf c) o n v i
+  unfolding storeBytes
   store-byte i =
       by-le o i
       (λ h. by-le (o + n) i
-      (λ l. rw (le-leb o i h, le-ltb i (o + n) l, store) (above-it i l))
-      (λ l. rw (le-leb o i h, lt-ltb i (o + n) l, store) (inside i h l)))
-      (λ h. rw (lt-leb o i h, store) (below i h))
+      (λ l. rw (le-leb o i h, le-ltb i (o + n) l, storeBytes) (above-it i l))
+      (λ l. rw (le-leb o i h, lt-ltb i (o + n) l, storeBytes) (inside i h l)))
+      (λ h. rw (lt-leb o i h, storeBytes) (below i h))
 
   -- the builder's lines store byte by byte
-  pub store-lines : zero < n → o + n ≤ 8 → c < 2 ^ 64 → storeLines c o n v ≡ load (store (byteOf c) o n v) 0 8
+  pub store-lines : zero < n → o + n ≤ 8 → c < 2 ^ 64 → storeLines c o n v ≡ loadBytes (storeBytes (byteOf c) o n v) 0 8
   unfolding storeLines mask
   store-lines h l hc =
       rw (mul-8 {o = o} (omega arith)) (put-lines (8 * n) (8 * o) {w = 64} c v (omega arith) (omega arith) hc)

@@ -6,7 +6,7 @@ use native.Mathlib.Omega.{arith}
 use lib.Dec.{lit<, lit≤}
 use Rattle.bitvec.specs.Smtlib.{bvadd, bvsub, bvmul, bvand, bvsdiv, bvshl, bvlshr, bvult, zeroExtend}
 use Rattle.bitvec.specs.TwosComplement.{sext, sra, sltu, signed, bitsOf, quot}
-use Rattle.bitvec.specs.Bytes.{byteOf, load, store}
+use Rattle.bitvec.specs.Bytes.{byteOf, loadBytes, storeBytes}
 use Rattle.bitvec.proofs.Composed.{sraLines, loadLines, loadSignedLines, storeLines}
 use Rattle.bitvec.proofs.Base.{shl-raw, shl-fits, lshr-is, sext-neg}
 use Rattle.bitvec.proofs.Logic.{and-63, and-31, and-7}
@@ -60,13 +60,13 @@ unfolding zeroExtend bvult sltu
 sltu-lines x y = refl
 
 -- ---- loads and stores at address a: the offset is a % 8
-pub load-at : (c a n : ℕ) → zero < n → a % 8 + n ≤ 8 → loadLines c (bvand a 7) n ≡ load (byteOf c) (a % 8) n
+pub load-at : (c a n : ℕ) → zero < n → a % 8 + n ≤ 8 → loadLines c (bvand a 7) n ≡ loadBytes (byteOf c) (a % 8) n
 load-at c a n h l = rw (and-7 a) (load-lines c (a % 8) n h l)
 
-pub load-signed-at : (c a n : ℕ) → zero < n → a % 8 + n ≤ 8 → loadSignedLines c (bvand a 7) n ≡ sext (8 * n) 64 (load (byteOf c) (a % 8) n)
+pub load-signed-at : (c a n : ℕ) → zero < n → a % 8 + n ≤ 8 → loadSignedLines c (bvand a 7) n ≡ sext (8 * n) 64 (loadBytes (byteOf c) (a % 8) n)
 load-signed-at c a n h l = rw (and-7 a) (load-signed-lines c (a % 8) n h l)
 
-pub store-at : (c a n v : ℕ) → zero < n → a % 8 + n ≤ 8 → c < 2 ^ 64 → storeLines c (bvand a 7) n v ≡ load (store (byteOf c) (a % 8) n v) 0 8
+pub store-at : (c a n v : ℕ) → zero < n → a % 8 + n ≤ 8 → c < 2 ^ 64 → storeLines c (bvand a 7) n v ≡ loadBytes (storeBytes (byteOf c) (a % 8) n v) 0 8
 store-at c a n v h l hc = rw (and-7 a) (store-lines c (a % 8) n v h l hc)
 
 -- ---- Lui, Auipc: `((imm as i32) << 12) as u64`, a shift at 32 bits, read as signed

@@ -9,10 +9,10 @@ unfoldable pub byteOf : ℕ → ℕ → ℕ
 byteOf v i = v / 2 ^ (8 * i) % 256
 
 -- the n bytes from place a on as one number, the first byte the lowest
-unfoldable pub load : (ℕ → ℕ) → ℕ → ℕ → ℕ
-load bytes a zero = 0
-load bytes a (suc n) = load bytes (suc a) n * 256 + bytes a
+unfoldable pub loadBytes : (ℕ → ℕ) → ℕ → ℕ → ℕ
+loadBytes bytes a zero = 0
+loadBytes bytes a (suc n) = loadBytes bytes (suc a) n * 256 + bytes a
 
 -- the bytes once the n low bytes of v stand from place a on
-unfoldable pub store : (ℕ → ℕ) → ℕ → ℕ → ℕ → ℕ → ℕ
-store bytes a n v i = elim (leb a i && ltb i (a + n)) [ true ↦ byteOf v (i - a) | false ↦ bytes i ]
+unfoldable pub storeBytes : (ℕ → ℕ) → ℕ → ℕ → ℕ → ℕ → ℕ
+storeBytes bytes a n v i = elim (leb a i && ltb i (a + n)) [ true ↦ byteOf v (i - a) | false ↦ bytes i ]

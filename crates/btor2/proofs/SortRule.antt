@@ -1,4 +1,4 @@
--- The sort rule of a list: what a line is to others is what it says of itself, and lines behind a list change nothing in it.
+-- The sort rule of a list: what a line is to others is what it says of itself, and lines after a list change nothing in it.
 -- Assumes nothing.
 use Prim.Native.Nat.{ℕ, zero, suc, _+_, _<_}
 use mathlib.Core.Path.{_≡_, refl, sym, _∙_, ap, subst}
@@ -73,7 +73,7 @@ pub rule-prefix : (xs ys : List (Op ℕ)) → T (meetsSortRule (xs ++ ys)) → T
 unfolding meetsSortRule judged
 rule-prefix xs ys h = right-before (walk Judged noLine judge [] xs) ys (subst (λ l. T (allRight l)) (walk-append Judged noLine judge [] xs ys) h)
 
--- ---- lines behind a list
+-- ---- lines after a list
 
 pub judged-kept : (xs ys : List (Op ℕ)) (p : ℕ) → p < length xs → getD (judged (xs ++ ys)) p noLine ≡ getD (judged xs) p noLine
 unfolding judged

@@ -1,4 +1,4 @@
--- Lines behind a list change no value in it. Assumes nothing.
+-- Lines after a list change no value in it. Assumes nothing.
 use Prim.Native.Nat.{ℕ, _<_}
 use mathlib.Core.Path.{_≡_}
 use mathlib.Core.List.{List, _++_}

@@ -1,4 +1,4 @@
--- Lines behind a list change no meaning in it. Assumes nothing.
+-- Lines after a list change no meaning in it. Assumes nothing.
 use Prim.Native.Nat.{ℕ, _+_, _<_}
 use native.Mathlib.Nat.{zero-add}
 use native.Mathlib.Omega.{arith}

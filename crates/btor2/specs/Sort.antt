@@ -39,9 +39,11 @@ abbrev pub firstNumbered : List NodeType → ℕ → MaybeSort
 firstNumbered [] n = NoSort
 firstNumbered (s ∷ ss) n = cond (eqb n (sortNumber s)) (Sort s) (firstNumbered ss n)
 
+abbrev pub sorts : List NodeType
+sorts = Bit ∷ Word ∷ Memory ∷ Input1Byte ∷ Input2Byte ∷ Input3Byte ∷ Input4Byte ∷ Input5Byte ∷ Input6Byte ∷ Input7Byte ∷ []
+
 abbrev pub sortNumbered : ℕ → MaybeSort
-sortNumbered n =
-    firstNumbered (Bit ∷ Word ∷ Memory ∷ Input1Byte ∷ Input2Byte ∷ Input3Byte ∷ Input4Byte ∷ Input5Byte ∷ Input6Byte ∷ Input7Byte ∷ []) n
+sortNumbered n = firstNumbered sorts n
 
 -- the same sort
 abbrev pub sameSort : NodeType → NodeType → Bool

@@ -1,3 +1,4 @@
+pub mod NoKind
 pub mod Carried
 pub mod Stored
 pub mod View

@@ -1,18 +1,25 @@
 -- A record that is put at a place is read there, and every other word is as it was. Assumes nothing.
-use Prim.Native.Nat.{ℕ, zero, suc, _+_, _*_, _/_, _^_, _≤_, _<_}
-use mathlib.Core.Path.{_≡_, refl, ap, _∙_}
+use Prim.Native.Nat.{ℕ, zero, suc, _+_, _*_, _/_, _≤_, _<_}
+use mathlib.Core.Path.{_≡_, refl, sym, ap, _∙_}
 use mathlib.Core.Bool.{Bool, true, false, cond, _||_, true≢false}
 use mathlib.Core.Logic.{_⊎_, inl, inr, ⊎-elim}
 use mathlib.Core.List.{List, [], _∷_}
 use native.Mathlib.Omega.{arith}
 use native.Mathlib.Nat.{add-zero, zero-add}
-use borrow.Author.Tests.{ltb-true, eqb-true}
+use borrow.Author.Tests.{ltb-true, eqb-true, lt-ltb, le-ltb, ne-eqb}
 use lib.Dec.{eqb}
 use lib.ListN.{length, getD, set, length-set}
 use lib.Seq.{sets, length-sets, getD-set-same, getD-set-other}
+use Rattle.bitvec.proofs.Base.{by-le}
+use Rattle.btor2.specs.declared.NodeType.{NodeType}
+use Rattle.btor2.specs.declared.MaybeSort.{MaybeSort}
+use Rattle.btor2.specs.declared.MaybeSort.the-variants.{NoSort}
+use Rattle.btor2.specs.Sort.{sortNumber, firstNumbered, sorts, sortNumbered}
+use Rattle.btor2.proofs.Sort.{number-small}
 use Rattle.btor2_list.specs.declared.Line.{Line}
-use Rattle.btor2_list.specs.Record.{stride, kindIn, sortIn, areaIn, initIn, nidIn, headOf, named, words, word, lineAt, holds, putAt}
-use Rattle.btor2_list.specs.Node.{opOf, nodeOf}
+use Rattle.btor2_list.specs.Record.{stride, kindIn, sortIn, areaIn, initIn, nidIn, saturated, mostInByte, mostInNid, markOfInit, headOf, hasName, words, word, lineAt, holds, putAt}
+use Rattle.btor2_list.specs.Node.{node, operatorAt, operatorsByKind, opOf, nodeOf}
+use Rattle.btor2_list.proofs.NoKind.{outside}
 
 -- ---- a run of words
 
@@ -38,13 +45,18 @@ pub same-words : (ws vs : List ℕ) (b d : ℕ) → ((k : ℕ) → k < stride �
 unfolding lineAt
 same-words ws vs b d h = rw (h 0 (omega arith), h 1 (omega arith), h 2 (omega arith), h 3 (omega arith))
 
--- a record whose numbers fit their fields is read as what it was written from: the fields that share words are not both used
+-- ---- a record is read as the line that it was written from, where its identifier and the area of its name fit their fields. Numbers of
+-- kinds and sorts that do not fit are read as others that name no kind and no sort either, and the fields that share words are not both used.
+
 pub record Fits (l : Line) : Type 0 where
-  pub nid : l .nid .0 < 2 ^ 32
-  pub kind : l .kind < 256
-  pub sort : l .sort < 256
-  pub area : l .name .area < 256
-  pub init : cond (eqb (l .kind) 19) (l .imm) 0 < 256
+  pub nid : l .nid .0 ≤ mostInNid
+  pub area : l .name .area ≤ mostInByte
+
+at-most : (most n : ℕ) → saturated most n ≤ most
+at-most most n = by-le (suc most) n (λ l. rw (lt-ltb most n l) (omega arith)) (λ l. rw (le-ltb most n (omega arith)) (omega arith))
+
+kept : (most n : ℕ) → n ≤ most → saturated most n ≡ n
+kept most n h = rw (le-ltb most n h)
 
 -- the fields of a first word
 record Back (k s a i n head : ℕ) : Type 0 where
@@ -54,8 +66,24 @@ record Back (k s a i n head : ℕ) : Type 0 where
   init : initIn head ≡ i
   nid : nidIn head ≡ n
 
-head-back : (k s a i n : ℕ) → k < 256 → s < 256 → a < 256 → i < 256 → n < 2 ^ 32 → Back k s a i n (headOf k s a i n)
-head-back k s a i n hk hs ha hi hn = record { kind = omega arith; sort = omega arith; area = omega arith; init = omega arith; nid = omega arith }
+fields-back : (k s a i n : ℕ) → k < 256 → s < 256 → a < 256 → i < 256 → Back k s a i n (k + 256 * s + 65536 * a + 16777216 * i + 4294967296 * n)
+fields-back k s a i n hk hs ha hi = record { kind = omega arith; sort = omega arith; area = omega arith; init = omega arith; nid = omega arith }
+
+head-back : (k s a i n : ℕ) → Back (saturated mostInByte k) (saturated mostInByte s) (saturated mostInByte a) (saturated markOfInit i) (saturated mostInNid n) (headOf k s a i n)
+head-back k s a i n =
+    fields-back (saturated mostInByte k) (saturated mostInByte s) (saturated mostInByte a) (saturated markOfInit i) (saturated mostInNid n)
+    (omega (arith, at-most mostInByte k)) (omega (arith, at-most mostInByte s)) (omega (arith, at-most mostInByte a)) (omega (arith, at-most markOfInit i))
+
+no-sort : (ss : List NodeType) (n : ℕ) → 17 < n → firstNumbered ss n ≡ NoSort
+no-sort [] n h = refl
+no-sort (s ∷ ss) n h = rw (ne-eqb n (sortNumber s) (λ e. omega (arith, number-small s))) (no-sort ss n h)
+
+any-sort : (n : ℕ) → sortNumbered (saturated mostInByte n) ≡ sortNumbered n
+any-sort n = by-le 256 n (λ l. rw (lt-ltb mostInByte n l) (sym (no-sort sorts n (omega arith)))) (λ l. ap sortNumbered (kept mostInByte n (omega arith)))
+
+-- the mark is 0 where there is no init
+any-mark : (i : ℕ) → eqb (saturated markOfInit i) 0 ≡ eqb i 0
+any-mark i = by-le 2 i (λ l. rw (lt-ltb markOfInit i l, ne-eqb i 0 (λ e. omega arith))) (λ l. ap (λ (n : ℕ). eqb n 0) (kept markOfInit i (omega arith)))
 
 either : (a b : Bool) → (a || b) ≡ true → (a ≡ true) ⊎ (b ≡ true)
 either true b e = inl refl
@@ -66,42 +94,39 @@ neither true b e = absurd (true≢false e)
 neither false b e = (refl, e)
 
 module _ (l : Line) (fits : Fits l) where
-  abbrev init : ℕ
-  init = cond (eqb (l .kind) 19) (l .imm) 0
-
-  -- the record that is read
-  abbrev read : Line
-  read = record {
+  -- the record that is read, with these numbers for its kind and its sort
+  abbrev read : ℕ → ℕ → Line
+  read kind sort = record {
     nid = l .nid;
-    kind = l .kind;
-    sort = l .sort;
+    kind = kind;
+    sort = sort;
     op1 = record { 0 = cond (eqb (l .kind) 1) (l .imm) (l .op1 .0) };
-    op2 = record { 0 = cond (named (l .kind)) (l .name .at) (l .op2 .0) };
-    op3 = record { 0 = cond (named (l .kind)) (l .name .len) (l .op3 .0) };
-    imm = cond (eqb (l .kind) 19) init (cond (eqb (l .kind) 1) (l .imm) (l .op1 .0));
-    name = record { area = l .name .area; at = cond (named (l .kind)) (l .name .at) (l .op2 .0); len = cond (named (l .kind)) (l .name .len) (l .op3 .0) };
+    op2 = record { 0 = cond (hasName (l .kind)) (l .name .at) (l .op2 .0) };
+    op3 = record { 0 = cond (hasName (l .kind)) (l .name .len) (l .op3 .0) };
+    imm = cond (eqb kind 19) (saturated markOfInit (cond (eqb (l .kind) 19) (l .imm) 0)) (cond (eqb (l .kind) 1) (l .imm) (l .op1 .0));
+    name = record { area = l .name .area; at = cond (hasName (l .kind)) (l .name .at) (l .op2 .0); len = cond (hasName (l .kind)) (l .name .len) (l .op3 .0) };
   }
 
-  reads : lineAt (words l) 0 ≡ read
+  reads : lineAt (words l) 0 ≡ read (saturated mostInByte (l .kind)) (saturated mostInByte (l .sort))
   unfolding lineAt
   reads =
-      let back = head-back (l .kind) (l .sort) (l .name .area) init (l .nid .0) (fits .kind) (fits .sort) (fits .area) (fits .init) (fits .nid) in
-      rw (back .kind, back .sort, back .area, back .init, back .nid)
+      let back = head-back (l .kind) (l .sort) (l .name .area) (cond (eqb (l .kind) 19) (l .imm) 0) (l .nid .0) in
+      rw (back .kind, back .sort, back .area, back .init, back .nid, kept mostInByte (l .name .area) (fits .area), kept mostInNid (l .nid .0) (fits .nid))
 
-  of-a-const : l .kind ≡ 1 → nodeOf read ≡ nodeOf l
+  of-a-const : l .kind ≡ 1 → nodeOf (read (l .kind) (l .sort)) ≡ nodeOf l
   unfolding opOf
   of-a-const e = rw e
 
-  of-a-name : named (l .kind) ≡ true → nodeOf read ≡ nodeOf l
+  of-a-name : hasName (l .kind) ≡ true → nodeOf (read (l .kind) (l .sort)) ≡ nodeOf l
   unfolding opOf
   of-a-name e =
       let k = l .kind in
       rw e
-      (⊎-elim (λ h. rw (eqb-true k 19 h))
+      (⊎-elim (λ h. rw (eqb-true k 19 h, any-mark (l .imm)))
       (λ g. ⊎-elim (λ h. rw (eqb-true k 21 h)) (λ h. rw (eqb-true k 22 h)) (either (eqb k 21) (eqb k 22) g))
       (either (eqb k 19) (eqb k 21 || eqb k 22) e))
 
-  of-operands : eqb (l .kind) 1 ≡ false → named (l .kind) ≡ false → nodeOf read ≡ nodeOf l
+  of-operands : eqb (l .kind) 1 ≡ false → hasName (l .kind) ≡ false → nodeOf (read (l .kind) (l .sort)) ≡ nodeOf l
   unfolding opOf
   of-operands h e =
       let k = l .kind in
@@ -109,13 +134,26 @@ module _ (l : Line) (fits : Fits l) where
       let n21 = neither (eqb k 21) (eqb k 22) (n19 .1) in
       rw (h, e, n19 .0, n21 .0, n21 .1)
 
-  own-node : nodeOf (lineAt (words l) 0) ≡ nodeOf l
-  own-node = ap nodeOf reads ∙ go (eqb (l .kind) 1) (named (l .kind)) refl refl
+  of-a-kind : nodeOf (read (l .kind) (l .sort)) ≡ nodeOf l
+  of-a-kind = go (eqb (l .kind) 1) (hasName (l .kind)) refl refl
     where
-      go : (c n : Bool) → eqb (l .kind) 1 ≡ c → named (l .kind) ≡ n → nodeOf read ≡ nodeOf l
+      go : (c n : Bool) → eqb (l .kind) 1 ≡ c → hasName (l .kind) ≡ n → nodeOf (read (l .kind) (l .sort)) ≡ nodeOf l
       go true n h e = of-a-const (eqb-true (l .kind) 1 h)
       go false true h e = of-a-name e
       go false false h e = of-operands h e
+
+  of-a-sort : (k : ℕ) → nodeOf (read k (saturated mostInByte (l .sort))) ≡ nodeOf (read k (l .sort))
+  unfolding opOf
+  of-a-sort k = ap (λ (s : MaybeSort). node (l .nid .0) (operatorAt (operatorsByKind s (read k (l .sort))) 1 k)) (any-sort (l .sort))
+
+  of-no-kind : 256 ≤ l .kind → nodeOf (read (saturated mostInByte (l .kind)) (l .sort)) ≡ nodeOf l
+  of-no-kind h = rw (lt-ltb mostInByte (l .kind) h, outside l (λ _. omega arith), outside (read mostInByte (l .sort)) (λ _. omega arith))
+
+  own-node : nodeOf (lineAt (words l) 0) ≡ nodeOf l
+  own-node =
+      ap nodeOf reads
+      ∙ of-a-sort (saturated mostInByte (l .kind))
+      ∙ by-le 256 (l .kind) of-no-kind (λ h. ap (λ (k : ℕ). nodeOf (read k (l .sort))) (kept mostInByte (l .kind) (omega arith)) ∙ of-a-kind)
 
 -- ---- put
 

@@ -1,4 +1,4 @@
--- The view of the lent words: a put behind the last line adds that line and changes no other, and reading what was written gives it
+-- The view of the lent words: a put after the last line adds that line and changes no other, and reading what was written gives it
 -- back. Assumes nothing.
 use Prim.Native.Nat.{ℕ, zero, suc, _+_, _*_, _≤_, _<_}
 use mathlib.Core.Path.{_≡_, refl, _∙_}

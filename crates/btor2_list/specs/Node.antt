@@ -69,24 +69,23 @@ lineOf nid unknown = row nid 0 0 0 0 0 0 noName
 -- ---- what a record is read as
 
 -- the operator at a number, in a table that starts at a number
-abbrev pub numbered : List (Op ℕ) → ℕ → ℕ → Op ℕ
-numbered [] from n = unknown
-numbered (o ∷ os) from n = cond (eqb n from) o (numbered os (ℕ.suc from) n)
+abbrev pub operatorAt : List (Op ℕ) → ℕ → ℕ → Op ℕ
+operatorAt [] from n = unknown
+operatorAt (o ∷ os) from n = cond (eqb n from) o (operatorAt os (ℕ.suc from) n)
 
 abbrev pub withSort : MaybeSort → (NodeType → Op ℕ) → Op ℕ
 withSort (Sort s) f = f s
 withSort NoSort f = unknown
 
--- the fields that the kind does not use are not looked at
-unfoldable pub opOf : Line → Op ℕ
-opOf l =
+-- what a record of each kind says, where its sort is s; the fields that a kind does not use are not looked at
+abbrev pub operatorsByKind : MaybeSort → Line → List (Op ℕ)
+operatorsByKind s l =
     let a = l .op1 .0 in
     let b = l .op2 .0 in
     let c = l .op3 .0 in
     let m = l .name in
-    let sorted = withSort (sortNumbered (l .sort)) in
-    numbered
-    (sorted (λ s. const s (l .imm))
+    let sorted = withSort s in
+    sorted (λ s. const s (l .imm))
     ∷ read a b
     ∷ write a b c
     ∷ bin add a b
@@ -108,8 +107,10 @@ opOf l =
     ∷ sorted (λ s. next s a b)
     ∷ sorted (λ s. input s m)
     ∷ bad a m
-    ∷ [])
-    1 (l .kind)
+    ∷ []
+
+unfoldable pub opOf : Line → Op ℕ
+opOf l = operatorAt (operatorsByKind (sortNumbered (l .sort)) l) 1 (l .kind)
 
 abbrev pub nodeOf : Line → Node
 nodeOf l = node (l .nid .0) (opOf l)

@@ -1,5 +1,5 @@
--- The lent words: records of four words, one behind the other.
-use Prim.Native.Nat.{ℕ, _+_, _*_, _/_, _%_}
+-- The lent words: records of four words, one after the other.
+use Prim.Native.Nat.{ℕ, _+_, _*_, _/_, _%_, _^_, _-_}
 use mathlib.Core.Bool.{Bool, cond, _||_}
 use mathlib.Core.List.{List, [], _∷_}
 use lib.Dec.{ltb, eqb}
@@ -13,7 +13,8 @@ use Rattle.btor2_list.specs.declared.Found.the-variants.{Line as at, Out
 abbrev pub stride : ℕ
 stride = 4
 
--- ---- the first word: a byte each for the kind, the sort, the name's area and the mark of a State's init, and four bytes for the identifier
+-- ---- the first word: a byte each for the kind, the sort, the name's area and the mark of a State's init, and four bytes for the identifier.
+-- A State has an init where its mark is not 0: we write 1, and a host may write any byte.
 
 abbrev pub kindIn : ℕ → ℕ
 kindIn head = head % 256
@@ -30,22 +31,40 @@ initIn head = head / 16777216 % 256
 abbrev pub nidIn : ℕ → ℕ
 nidIn head = head / 4294967296
 
--- of a number that is too large for its field the upper bytes are dropped
+-- a number that its field cannot hold is stored as the largest that it can. No kind, sort or area has the number 255, and no list that is
+-- accepted has the identifier 2^32 - 1, so refusals 9 to 11 see what did not fit.
+abbrev pub saturated : ℕ → ℕ → ℕ
+saturated most n = cond (ltb most n) most n
+
+abbrev pub mostInByte : ℕ
+mostInByte = 2 ^ 8 - 1
+
+abbrev pub mostInNid : ℕ
+mostInNid = 2 ^ 32 - 1
+
+abbrev pub markOfInit : ℕ
+markOfInit = 1
+
 abbrev pub headOf : ℕ → ℕ → ℕ → ℕ → ℕ → ℕ
-headOf kind sort area init nid = kind % 256 + 256 * (sort % 256) + 65536 * (area % 256) + 16777216 * (init % 256) + 4294967296 * (nid % 4294967296)
+headOf kind sort area init nid =
+    saturated mostInByte kind
+    + 256 * saturated mostInByte sort
+    + 65536 * saturated mostInByte area
+    + 16777216 * saturated markOfInit init
+    + 4294967296 * saturated mostInNid nid
 
 -- ---- the other words: operands. A Const has none, and its value stands in the first's place; State, Input and Bad have no second and third,
 -- and the place and the length of their name stand there.
 
-abbrev pub named : ℕ → Bool
-named kind = eqb kind 19 || (eqb kind 21 || eqb kind 22)
+abbrev pub hasName : ℕ → Bool
+hasName kind = eqb kind 19 || (eqb kind 21 || eqb kind 22)
 
 abbrev pub words : Line → List ℕ
 words l =
     headOf (l .kind) (l .sort) (l .name .area) (cond (eqb (l .kind) 19) (l .imm) 0) (l .nid .0)
     ∷ cond (eqb (l .kind) 1) (l .imm) (l .op1 .0)
-    ∷ cond (named (l .kind)) (l .name .at) (l .op2 .0)
-    ∷ cond (named (l .kind)) (l .name .len) (l .op3 .0)
+    ∷ cond (hasName (l .kind)) (l .name .at) (l .op2 .0)
+    ∷ cond (hasName (l .kind)) (l .name .len) (l .op3 .0)
     ∷ []
 
 -- word k of the record whose first word is word b, and that record

@@ -12,7 +12,7 @@ ghost use lib.ListN.{length};
 ghost use lib.Seq.{sets};
 ghost use Rattle.btor2.specs.Op.{carried};
 ghost use Rattle.btor2_list.specs.declared.Line.{Line};
-ghost use Rattle.btor2_list.specs.Record.{headOf, named, words, lineAt, holds, putAt, getAt};
+ghost use Rattle.btor2_list.specs.Record.{saturated, headOf, hasName, words, lineAt, holds, putAt, getAt};
 ghost use Rattle.btor2_list.specs.Node.{opOf};
 ghost use Rattle.btor2_list.specs.Look.{lookAt};
 
@@ -43,6 +43,13 @@ pub const AREA_UNIT: u64 = 65536;
 pub const INIT_UNIT: u64 = 16777216;
 
 pub const NID_UNIT: u64 = 4294967296;
+
+// The largest numbers that fields of the first word hold, and the mark that we write for a State's init; on reading, any but 0 is one.
+const MOST_IN_BYTE: u64 = 255;
+
+const MOST_NID: u64 = 4294967295;
+
+const MARK_OF_INIT: u64 = 1;
 
 // The kinds of a record, in the order of unicorn's `Node`.
 pub const CONST: u64 = 1;
@@ -115,7 +122,8 @@ pub enum Looked {
     Value(Nid, NodeType),
 }
 
-// Stores a record at a place. Where the words do not reach that far, answers false and changes nothing.
+// Stores a record at a place; a number that its field cannot hold, as the largest that it can. Where the words do not reach that far, answers
+// false and changes nothing.
 pub fn put(list: &mut [u64], place: NodeRef, line: Line) -> bool
     ensures stored { λ r. ⌜ r ≡ holds (now (list .entry)) (place .0) ⌝ }
     ensures list { λ r. ⌜ now (list .exit) ≡ putAt (now (list .entry)) (place .0) line ⌝ }
@@ -152,31 +160,30 @@ fn either(test: bool, a: u64, b: u64) -> u64
     if test { a } else { b }
 }
 
-// The first word of a record. Of a number that is too large for its field the upper bytes are dropped; none that the builder writes is.
+// The first word of a record. A number that its field cannot hold is stored as the largest that it can, which no check over the list accepts;
+// the builder writes none.
 fn head_of(kind: u64, sort: u64, area: u64, init: u64, nid: u64) -> u64
     ensures { λ r. ⌜ r ≡ headOf kind sort area init nid ⌝ }
 {
-    kind % BYTE
-        + SORT_UNIT * (sort % BYTE)
-        + AREA_UNIT * (area % BYTE)
-        + INIT_UNIT * (init % BYTE)
-        + NID_UNIT * (nid % NID_UNIT)
+    saturate(MOST_IN_BYTE, kind)
+        + SORT_UNIT * saturate(MOST_IN_BYTE, sort)
+        + AREA_UNIT * saturate(MOST_IN_BYTE, area)
+        + INIT_UNIT * saturate(MARK_OF_INIT, init)
+        + NID_UNIT * saturate(MOST_NID, nid)
+}
+
+fn saturate(most: u64, n: u64) -> u64
+    ensures is { λ r. ⌜ r ≡ saturated most n ⌝ }
+    ensures most { λ r. ⌜ r ≤ most ⌝ }
+{
+    if most < n { most } else { n }
 }
 
 // Whether lines of a kind have a name.
 pub fn is_named(kind: u64) -> bool
-    ensures { λ r. ⌜ r ≡ named kind ⌝ }
+    ensures { λ r. ⌜ r ≡ hasName kind ⌝ }
 {
-    if kind == STATE {
-        return true;
-    }
-    if kind == INPUT {
-        return true;
-    }
-    if kind == BAD {
-        return true;
-    }
-    false
+    (kind == STATE) | ((kind == INPUT) | (kind == BAD))
 }
 
 // The record at a place.

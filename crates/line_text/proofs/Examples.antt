@@ -5,12 +5,12 @@ use Rattle.btor2.specs.declared.NodeType.the-variants.{Bit}
 use Rattle.btor2.specs.Op.{const, not, mapOp}
 use Rattle.btor2_list.specs.Node.{node}
 use Rattle.text.specs.Numeral.{numeral}
-use Rattle.node_text.specs.Words.{ascii}
-use Rattle.node_text.specs.Row.{written}
+use Rattle.text.specs.Ascii.{ascii}
+use Rattle.node_text.specs.Row.{rowText}
 use Rattle.record_text.specs.Line.{lineText}
 use Rattle.line_text.specs.Line.{nodesText, runText}
 
 -- places and identifiers are kept apart: the operand at place 0 is printed as 20
 run-of-one : runText [] [] (node 20 (const Bit 1) ∷ node 22 (not Bit 0) ∷ []) 1 1 ≡ ascii "22 not 1 20\n"
-unfolding nodesText lineText mapOp written numeral
+unfolding nodesText lineText mapOp rowText numeral
 run-of-one = refl

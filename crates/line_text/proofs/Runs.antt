@@ -1,4 +1,4 @@
--- A run is its first line and the run behind it. Assumes nothing.
+-- A run is its first line and the run after it. Assumes nothing.
 use Prim.Native.Nat.{ℕ, zero, suc, _+_, _-_, _≤_, _<_}
 use mathlib.Core.Path.{_≡_, sym, ap, _∙_}
 use mathlib.Core.List.{List, [], _++_}

@@ -1,16 +1,15 @@
--- The test of a line whose kind has a sort of its own, and of a record of no known kind. Assumes nothing.
+-- The test of a line whose kind has a sort of its own. Assumes nothing.
 use Prim.Native.Nat.{ℕ}
 use mathlib.Core.Path.{_≡_, refl, sym, _∙_}
 use mathlib.Core.Bool.{Bool, true, false, cond, _&&_, _||_, or-false, true≢false}
 use mathlib.Core.Bool as B
 use mathlib.Core.List.{[], _∷_}
 use lib.Dec.{eqb}
-use borrow.Author.Tests.{ne-eqb}
 use Rattle.btor2.specs.declared.NodeType.{NodeType}
 use Rattle.btor2.specs.declared.MaybeSort.{MaybeSort}
 use Rattle.btor2.specs.declared.MaybeSort.the-variants.{Sort, NoSort}
 use Rattle.btor2.specs.Sort.{sortNumbered}
-use Rattle.btor2.specs.Op.{Op, state, stateInit, unknown}
+use Rattle.btor2.specs.Op.{Op, state, stateInit}
 use Rattle.btor2_list.specs.declared.Line.{Line}
 use Rattle.btor2_list.specs.Node.{withSort, opOf}
 use Rattle.list_check.specs.Lines.{any}
@@ -75,10 +74,3 @@ module _ (host ours : ℕ) (out : ℕ → Bool) (l : Line) where
   pub an-input : l .kind ≡ 21 → opUnformed host ours out (opOf l) ≡ (noSort || nameOutside host ours (l .name))
   unfolding opOf opUnformed
   an-input e = rw e (own (sortNumbered (l .sort)) _ _ (λ s. or-false _))
-
--- ---- none of the 22
-
-pub no-kind : (l : Line) → (l .kind ≡ 1 → ⊥) → (l .kind ≡ 2 → ⊥) → (l .kind ≡ 3 → ⊥) → (l .kind ≡ 4 → ⊥) → (l .kind ≡ 5 → ⊥) → (l .kind ≡ 6 → ⊥) → (l .kind ≡ 7 → ⊥) → (l .kind ≡ 8 → ⊥) → (l .kind ≡ 9 → ⊥) → (l .kind ≡ 10 → ⊥) → (l .kind ≡ 11 → ⊥) → (l .kind ≡ 12 → ⊥) → (l .kind ≡ 13 → ⊥) → (l .kind ≡ 14 → ⊥) → (l .kind ≡ 15 → ⊥) → (l .kind ≡ 16 → ⊥) → (l .kind ≡ 17 → ⊥) → (l .kind ≡ 18 → ⊥) → (l .kind ≡ 19 → ⊥) → (l .kind ≡ 20 → ⊥) → (l .kind ≡ 21 → ⊥) → (l .kind ≡ 22 → ⊥) → opOf l ≡ unknown
-unfolding opOf
-no-kind l h1 h2 h3 h4 h5 h6 h7 h8 h9 h10 h11 h12 h13 h14 h15 h16 h17 h18 h19 h20 h21 h22 =
-    rw (ne-eqb (l .kind) 1 h1, ne-eqb (l .kind) 2 h2, ne-eqb (l .kind) 3 h3, ne-eqb (l .kind) 4 h4, ne-eqb (l .kind) 5 h5, ne-eqb (l .kind) 6 h6, ne-eqb (l .kind) 7 h7, ne-eqb (l .kind) 8 h8, ne-eqb (l .kind) 9 h9, ne-eqb (l .kind) 10 h10, ne-eqb (l .kind) 11 h11, ne-eqb (l .kind) 12 h12, ne-eqb (l .kind) 13 h13, ne-eqb (l .kind) 14 h14, ne-eqb (l .kind) 15 h15, ne-eqb (l .kind) 16 h16, ne-eqb (l .kind) 17 h17, ne-eqb (l .kind) 18 h18, ne-eqb (l .kind) 19 h19, ne-eqb (l .kind) 20 h20, ne-eqb (l .kind) 21 h21, ne-eqb (l .kind) 22 h22)

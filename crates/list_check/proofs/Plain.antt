@@ -15,7 +15,7 @@ use Rattle.btor2.specs.Sort.{sortNumber, sortNumbered}
 use Rattle.btor2.specs.Op.{Op}
 use Rattle.btor2.proofs.Sort.{sort-back}
 use Rattle.btor2_list.specs.declared.Line.{Line}
-use Rattle.btor2_list.specs.Record.{named}
+use Rattle.btor2_list.specs.Record.{hasName}
 use Rattle.btor2_list.specs.Node.{opOf}
 use Rattle.list_check.specs.Lines.{any}
 use Rattle.list_check.specs.Formed.{opUnformed}
@@ -35,7 +35,7 @@ one-to-three n h = this Bit n (this Word n (this Memory n (λ l. absurd (omega a
 
 -- ---- kind by kind
 
-pub unnamed : (k : ℕ) → k ≤ 20 → (k ≡ 19 → ⊥) → named k ≡ false
+pub unnamed : (k : ℕ) → k ≤ 20 → (k ≡ 19 → ⊥) → hasName k ≡ false
 unnamed k h n = rw (ne-eqb k 19 n, ne-eqb k 21 (λ e. omega arith), ne-eqb k 22 (λ e. omega arith))
 
 module _ (host ours : ℕ) (out : ℕ → Bool) (l : Line) where

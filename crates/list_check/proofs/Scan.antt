@@ -1,10 +1,11 @@
 -- Of the lines of a known kind and sort, the kind tells which carry a value. Assumes nothing.
-use Prim.Native.Nat.{ℕ, _*_, _/_, _<_}
+use Prim.Native.Nat.{ℕ, _+_, _*_, _/_, _≤_, _<_}
 use mathlib.Core.Path.{_≡_, refl, sym, _∙_, ap, fun-ext}
 use mathlib.Core.Bool.{Bool, true, false, cond, _||_}
 use mathlib.Core.Bool as B
 use mathlib.Core.List.{List}
 use native.Mathlib.Decide.{ℕ-discrete}
+use native.Mathlib.Numerals.{add-one}
 use native.Mathlib.Omega.{arith}
 use lib.Dec.{eqb}
 use lib.ListN.{length}
@@ -18,12 +19,13 @@ use Rattle.btor2.specs.Op.{Op, next, carried}
 use Rattle.btor2_list.specs.declared.Line.{Line}
 use Rattle.btor2_list.specs.Record.{stride, lineAt}
 use Rattle.btor2_list.specs.Node.{withSort, opOf}
-use Rattle.list_check.specs.Formed.{isUnknown, hasValue, opUnformed}
-use Rattle.list_check.specs.Lines.{some}
+use Rattle.list_check.specs.declared.Checked.the-variants.{Unformed}
+use Rattle.list_check.specs.Formed.{isUnknown, hasValue, opUnformed, unformedWords}
+use Rattle.list_check.specs.Lines.{some, pastWords}
 use Rattle.list_check.specs.Operand.{noValueAt}
-use Rattle.list_check.specs.Scan.{outBefore, scanUnformed}
+use Rattle.list_check.specs.Scan.{outBefore, scanUnformed, nameLength, scanLine, checkedLine}
 use Rattle.list_check.proofs.Some.{some-none}
-use Rattle.list_check.proofs.Formed.{said, recordUnformed, seen-value, formed-line}
+use Rattle.list_check.proofs.Formed.{said, recordUnformed, neither, seen-value, by-records, formed-line}
 
 -- it carries a value unless it is unknown
 abbrev Valued : Op ℕ → Type 0
@@ -110,3 +112,18 @@ scanned ws i host ours r = rw (lt-ltb _ _ (r .held)) (recorded ws i host ours r)
 pub reached : (ws : List ℕ) (i host ours : ℕ) → i < length ws / stride → some i (recordUnformed host ours ws) ≡ false → Reached ws i
 reached ws i host ours h none =
     record { held = h; known = λ q l. formed-line host ours (noValueAt ws q) (said ws q) (some-none i (recordUnformed host ours ws) none q l) .0 }
+
+-- so that it finds 11 of the lines up to that line
+pub checked : (ws : List ℕ) (i host ours : ℕ) → unformedWords ws i host ours ≡ false → scanLine ws i host ours ≡ checkedLine ws i host ours
+unfolding some
+checked ws i host ours none = ap (λ (t : Bool). cond t Unformed (nameLength (lineAt ws (i * stride)))) (by-le (length ws / stride) i past-the-words within)
+  where
+    past-the-words : length ws / stride ≤ i → scanUnformed ws i host ours ≡ unformedWords ws (i + 1) host ours
+    past-the-words h = let over : length ws / stride < i + 1 = omega arith in rw (le-ltb _ _ h, lt-ltb _ _ over)
+
+    within : i < length ws / stride → scanUnformed ws i host ours ≡ unformedWords ws (i + 1) host ours
+    within h =
+        let room : i + 1 ≤ length ws / stride = omega arith in
+        let before : some i (recordUnformed host ours ws) ≡ false = sym (by-records ws i (omega arith) host ours) ∙ neither (pastWords ws i) _ none .1 in
+        let one : some (i + 1) (recordUnformed host ours ws) ≡ recordUnformed host ours ws i = rw (add-one, before) in
+        scanned ws i host ours (reached ws i host ours h before) ∙ rw (le-ltb _ _ room) (sym (by-records ws (i + 1) room host ours ∙ one))

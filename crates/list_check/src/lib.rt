@@ -45,11 +45,11 @@ ghost use mathlib.Core.List.{[], _∷_};
 ghost use Prim.Native.Nat.{ℕ, _+_, _*_, _/_, _<_};
 ghost use lib.ListN.{length};
 ghost use Rattle.btor2.specs.Sort.{sortNumbered};
-ghost use Rattle.btor2_list.specs.Record.{stride, kindIn, sortIn, initIn, named, word, lineAt};
+ghost use Rattle.btor2_list.specs.Record.{stride, kindIn, sortIn, initIn, hasName, word, lineAt};
 ghost use Rattle.btor2_list.specs.Node.{opOf};
 ghost use Rattle.list_check.specs.Lines.{any};
 ghost use Rattle.list_check.specs.Formed.{nameOutside, hasValue, opUnformed, unformedWords};
-ghost use Rattle.list_check.specs.Scan.{outBefore, nameLength, scanLine, outAt};
+ghost use Rattle.list_check.specs.Scan.{outBefore, nameLength, scanLine, checkedLine, outAt};
 
 // The numbers of the first and the last sort that the builder writes.
 const BIT: u64 = 1;
@@ -84,10 +84,11 @@ pub fn unformed(list: &[u64], lines: usize, host: usize, ours: usize) -> bool
     false
 }
 
-// Line i alone, in a scan that has found that each line before it has a known kind and sort. In a long list the jump of a match on the kind
-// is guessed wrongly for most lines, so that a test which nearly all of them pass stands in front of it.
+// Line i alone, in a scan that has found the lines before it well formed: then it answers 11 of the lines up to this one. In a long list the
+// jump of a match on the kind is guessed wrongly for most lines, so that a test which nearly all of them pass stands in front of it.
 pub fn check_line(list: &[u64], i: usize, host: usize, ours: usize) -> Checked
-    ensures { λ r. ⌜ r ≡ scanLine (now (list .entry)) i host ours ⌝ }
+    ensures is { λ r. ⌜ r ≡ scanLine (now (list .entry)) i host ours ⌝ }
+    ensures eleven { λ r. ⌜ (unformedWords (now (list .entry)) i host ours ≡ false → r ≡ checkedLine (now (list .entry)) i host ours) ⌝ }
 {
     if list.len() / STRIDE <= i {
         return Checked::Unformed;
@@ -119,7 +120,7 @@ fn name_len(list: &[u64], i: usize) -> Checked
 // line, so that each branch nearly always goes the same way.
 fn plainly_formed(list: &[u64], i: usize) -> bool
     requires { ⌜ i < length (now list) / 4 ⌝ }
-    ensures { λ r. ⌜ (r ≡ true → (named (kindIn (word (now (list .entry)) (i * stride) 0)) ≡ false) × ((host ours : ℕ) → opUnformed host ours (outBefore (now (list .entry)) i) (opOf (lineAt (now (list .entry)) (i * stride))) ≡ false)) ⌝ }
+    ensures { λ r. ⌜ (r ≡ true → (hasName (kindIn (word (now (list .entry)) (i * stride) 0)) ≡ false) × ((host ours : ℕ) → opUnformed host ours (outBefore (now (list .entry)) i) (opOf (lineAt (now (list .entry)) (i * stride))) ≡ false)) ⌝ }
 {
     let at = i * STRIDE;
     let head = list[at + AT_HEAD];

@@ -4,7 +4,7 @@ use line_text::nid_at;
 use listing_text::NEWLINE;
 use listing_text::SPACE;
 ghost use Rattle.line_text.specs.Line.{nodes};
-ghost use Rattle.node_text.specs.Words.{ascii};
+ghost use Rattle.text.specs.Ascii.{ascii};
 ghost use Rattle.text.specs.Put.{Put};
 ghost use Rattle.listing_text.specs.Remarks.{originWord, conditionText, edgeText, edgeTextAt, edgesText};
 

@@ -7,7 +7,7 @@ use lib.Dec.{eqb, ltb}
 use lib.ListN.{length, getD}
 use Rattle.btor2_list.specs.Node.{Node}
 use Rattle.line_text.specs.Line.{nidAt}
-use Rattle.node_text.specs.Words.{ascii}
+use Rattle.text.specs.Ascii.{ascii}
 use Rattle.text.specs.Numeral.{decimalText}
 
 abbrev pub newlineText : List ℕ

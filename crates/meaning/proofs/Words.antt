@@ -11,8 +11,7 @@ use borrow.Author.Tests.{eqb-true, eq-eqb, ne-eqb, lt-ltb, le-ltb}
 use Rattle.bitvec.specs.Smtlib.{bit, bvand, bvadd, bvsub, bvudiv, bvurem, bvshl, bvlshr, bvcomp}
 use Rattle.bitvec.specs.Smtlib as Smt
 use Rattle.bitvec.specs.TwosComplement.{sext, sra}
-use Rattle.bitvec.specs.Bytes.{byteOf, load}
-use Rattle.bitvec.specs.Bytes as Bytes
+use Rattle.bitvec.specs.Bytes.{byteOf, loadBytes, storeBytes}
 use Rattle.bitvec.proofs.Base.{by-le, mod-low, sub-is, shl-raw, lshr-is}
 use Rattle.bitvec.proofs.Composed.{sraLines, loadLines, loadSignedLines, storeLines}
 use Rattle.bitvec.proofs.Logic.{and-word}
@@ -142,7 +141,7 @@ module _ (cells : ℕ → ℕ) (a n : ℕ) (small : a < 2 ^ 64) (inside : a % 8 
 
   module _ (fits : (x : ℕ) → cells x < 2 ^ 64) (v x : ℕ) (hx : x < 2 ^ 64) where
     -- a write of what the cell is after the store
-    written : (w : ℕ) → w ≡ load (Bytes.store (byteOf (cells (a - a % 8))) (a % 8) n v) 0 8
+    written : (w : ℕ) → w ≡ loadBytes (storeBytes (byteOf (cells (a - a % 8))) (a % 8) n v) 0 8
         → store cells (a - a % 8) w x ≡ cellsWith cells (storeAt (bytesOf cells) a n v) x
     unfolding Smt.ite bvcomp bit
     written w e = go (ℕ-discrete x (a - a % 8))

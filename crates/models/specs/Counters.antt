@@ -92,12 +92,12 @@ module _ {A : Type 0} where
     done (gives (withMemory f counter (f .maximum) access) (memory write))
 
   -- Lb, Lh, Lw, Lbu, Lhu; Sb, Sh, Sw
-  unfoldable pub load : Operands A → Flows A → Bool → ℕ → ℕ → Bool → Prog A (Modeled A)
-  load e f z imm spare signed = do
+  unfoldable pub modelLoad : Operands A → Flows A → Bool → ℕ → ℕ → Bool → Prog A (Modeled A)
+  modelLoad e f z imm spare signed = do
     address ← modelAddress z imm (e .rs1)
     modelL e f spare signed address
 
-  unfoldable pub store : Operands A → Flows A → Bool → ℕ → ℕ → Prog A (Modeled A)
-  store e f z imm ones = do
+  unfoldable pub modelStore : Operands A → Flows A → Bool → ℕ → ℕ → Prog A (Modeled A)
+  modelStore e f z imm ones = do
     address ← modelAddress z imm (e .rs1)
     modelS e f ones address

@@ -27,16 +27,16 @@ module _ {A : Type 0} where
     x ← op (e .rs1) c
     done (gives f (register x))
 
-  -- what Addi checks against: imm is 0, the register itself; rs1 is x0, a second constant; else the sum
-  unfoldable pub addend : Bool → Bool → ℕ → A → A → Prog A A
-  addend true s imm rs1 c = done rs1
-  addend false true imm rs1 c = newConst imm
-  addend false false imm rs1 c = newBin add rs1 c
+  -- what Addi gives: where imm is 0, rs1's node itself; where rs1 is x0, a second constant; else the sum
+  unfoldable pub addiResult : Bool → Bool → ℕ → A → A → Prog A A
+  addiResult true s imm rs1 c = done rs1
+  addiResult false true imm rs1 c = newConst imm
+  addiResult false false imm rs1 c = newBin add rs1 c
 
   unfoldable pub sumWithConstant : Bool → Bool → Operands A → Flows A → ℕ → Prog A (Modeled A)
   sumWithConstant z s e f imm = do
     c ← newConst imm
-    x ← addend z s imm (e .rs1) c
+    x ← addiResult z s imm (e .rs1) c
     overflow ← checkAdditionOverflow (e .flag) (f .addition) (e .rs1) c x
     done (gives (withAddition f overflow) (register x))
 

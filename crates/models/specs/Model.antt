@@ -1,47 +1,56 @@
 -- What each of the fifty kinds appends: the first `match` of unicorn's `translate_to_model`, and Jalr's bad line.
 use Prim.Native.Nat.{ℕ, _+_, _-_, _*_, _%_, _^_}
 use mathlib.Core.Bool.{Bool, true, false, cond, _&&_}
-use mathlib.Core.List.{[], _∷_}
-use lib.Dec.{ltb}
+use mathlib.Core.List.{List, [], _∷_}
+use lib.Dec.{eqb, ltb}
 use Rattle.btor2.specs.declared.Name.{Name}
 use Rattle.btor2.specs.declared.NodeType.the-variants.{Word, Memory}
 use Rattle.btor2.specs.Op.{add, sub, udiv, sdiv, sll, srl, ult}
-use Rattle.riscv.specs.Kind.{Kind, Lui, Auipc, Lb, Lh, Lw, Ld, Lbu, Lhu, Sb, Sh, Sw, Sd, Addi, Sltiu, Xori, Ori, Andi, Slli, Srli, Srai, Addiw, Slliw, Srliw, Sraiw, Add, Sub, Sll, Sltu, Srl, Sra, Or, And, Mul, Div, Divu, Remu, Addw, Divw, Subw, Sllw, Mulw, Beq, Bne, Blt, Bge, Bltu, Bgeu, Jal, Jalr, Ecall, oneOf}
+use Rattle.riscv.specs.Kind.{Kind, Lui, Auipc, Lb, Lh, Lw, Ld, Lbu, Lhu, Sb, Sh, Sw, Sd, Addi, Sltiu, Xori, Ori, Andi, Slli, Srli, Srai, Addiw, Slliw, Srliw, Sraiw, Add, Sub, Sll, Sltu, Srl, Sra, Or, And, Mul, Div, Divu, Remu, Addw, Divw, Subw, Sllw, Mulw, Beq, Bne, Blt, Bge, Bltu, Bgeu, Jal, Jalr, Ecall, kindNumber, oneOf}
 use Rattle.program.specs.Prog.{Prog, done, _>>=_}
 use Rattle.program.specs.OneLine.{newBin, newIte, newEq, newAndWord, newBad}
 use Rattle.builder_ops.specs.Composed.{newNeq, newUgte, newSlt, newSgte, newOr, newXor, newSra}
 use Rattle.models.specs.Places.{Operands, Flows, Outcome, Modeled, nothing, register, memory, branch, gives}
-use Rattle.models.specs.Counters.{load, store, modelLd, modelSd}
+use Rattle.models.specs.Counters.{modelLoad, modelStore, modelLd, modelSd}
 use Rattle.models.specs.Kinds.{constant, link, withConstant, modelAddi, modelAddiw, modelSltiu, modelSlliw, shiftedBack, withRegister, modelSltu, shifted, modelSllw, summed, summedWord, modelMul, modelMulw, divided, modelDivw, modelRemu, modelBranch, modelEcall}
 
 -- `((imm as i32) << 12) as u64`
 unfoldable pub upper : ℕ → ℕ
 upper imm = cond (ltb (imm % 2 ^ 20) (2 ^ 19)) (imm % 2 ^ 20 * 2 ^ 12) (imm % 2 ^ 20 * 2 ^ 12 + (2 ^ 64 - 2 ^ 32))
 
--- the constant that a kind's lines have: its immediate, but for these
+-- what a table has for a kind, or x where it has no row for it
+abbrev pub inTable : ℕ → Kind → List (Kind × ℕ) → ℕ
+inTable x k [] = x
+inTable x k (row ∷ rows) = cond (eqb (kindNumber k) (kindNumber (row .0))) (row .1) (inTable x k rows)
+
+-- the constant that a kind's lines have: its immediate, but for these kinds
 unfoldable pub constantOf : Kind → ℕ → ℕ → ℕ
 constantOf k imm pc =
-    cond (oneOf k (Lui ∷ [])) (upper imm)
-    (cond (oneOf k (Auipc ∷ [])) ((upper imm + pc) % 2 ^ 64)
-    (cond (oneOf k (Srai ∷ [])) (imm % 64)
-    (cond (oneOf k (Slliw ∷ Srliw ∷ [])) ((imm + 32) % 2 ^ 64)
-    (cond (oneOf k (Sraiw ∷ [])) (imm % 64 + 32)
-    (cond (oneOf k (Jal ∷ Jalr ∷ [])) ((pc + 4) % 2 ^ 64) imm)))))
+    inTable imm k
+    ((Lui, upper imm)
+    ∷ (Auipc, (upper imm + pc) % 2 ^ 64)
+    ∷ (Srai, imm % 64)
+    ∷ (Slliw, (imm + 32) % 2 ^ 64)
+    ∷ (Srliw, (imm + 32) % 2 ^ 64)
+    ∷ (Sraiw, imm % 64 + 32)
+    ∷ (Jal, (pc + 4) % 2 ^ 64)
+    ∷ (Jalr, (pc + 4) % 2 ^ 64)
+    ∷ [])
 
 module _ {A : Type 0} where
   -- imm is its constant; the tests are: imm is 0, rd is x0, rs1 is x0
   abbrev pub model : Operands A → Flows A → ℕ → Kind → Bool → Bool → Bool → Prog A (Modeled A)
   model e f imm Lui z d s = constant f imm
   model e f imm Auipc z d s = constant f imm
-  model e f imm Lb z d s = load e f z imm 56 true
-  model e f imm Lh z d s = load e f z imm 48 true
-  model e f imm Lw z d s = load e f z imm 32 true
+  model e f imm Lb z d s = modelLoad e f z imm 56 true
+  model e f imm Lh z d s = modelLoad e f z imm 48 true
+  model e f imm Lw z d s = modelLoad e f z imm 32 true
   model e f imm Ld z d s = modelLd e f z imm
-  model e f imm Lbu z d s = load e f z imm 56 false
-  model e f imm Lhu z d s = load e f z imm 48 false
-  model e f imm Sb z d s = store e f z imm (2 ^ 8 - 1)
-  model e f imm Sh z d s = store e f z imm (2 ^ 16 - 1)
-  model e f imm Sw z d s = store e f z imm (2 ^ 32 - 1)
+  model e f imm Lbu z d s = modelLoad e f z imm 56 false
+  model e f imm Lhu z d s = modelLoad e f z imm 48 false
+  model e f imm Sb z d s = modelStore e f z imm (2 ^ 8 - 1)
+  model e f imm Sh z d s = modelStore e f z imm (2 ^ 16 - 1)
+  model e f imm Sw z d s = modelStore e f z imm (2 ^ 32 - 1)
   model e f imm Sd z d s = modelSd e f z imm
   model e f imm Addi z d s = modelAddi d z s e f imm
   model e f imm Sltiu z d s = modelSltiu e f imm
@@ -99,7 +108,7 @@ module _ {A : Type 0} where
   settle flag register-flow memory-flow f (memory x) = memoryFlowIte flag memory-flow f x
   settle flag register-flow memory-flow f (branch x y) = done (gives f (branch x y))
 
-  -- Jalr under x0: a bad line behind the others
+  -- Jalr under x0: a bad line after the others
   unfoldable pub unimplemented : Bool → A → Name → Modeled A → Prog A (Modeled A)
   unimplemented false flag name m = done m
   unimplemented true flag name m = do

@@ -11,13 +11,21 @@ use models::Flows;
 use models::Modeled;
 use models::Operands;
 use models::Outcome;
-ghost use Rattle.models.specs.Kinds.{constant, addend, sumWithConstant, modelAddi, modelAddiw};
+ghost use Rattle.models.specs.Kinds.{constant, addiResult, sumWithConstant, modelAddi, modelAddiw};
 ghost use Rattle.builder.specs.Gives.{Gives};
 ghost use Rattle.models.specs.Code.{operandsOf, flowsOf, modeledOf};
 
 // What Addi gives: rs1 where imm is 0, a second constant where rs1 is x0, else the sum.
-fn addend(list: &mut [u64], t: Tally, z: bool, s: bool, imm: u64, rs1: NodeRef, c: NodeRef) -> Made
-    ensures { λ r. ⌜ Gives (now (list .entry)) t (addend z s imm (rs1 .0) (c .0)) (now (list .exit)) (r .tally) (r .node .0) ⌝ }
+fn addi_result(
+    list: &mut [u64],
+    t: Tally,
+    z: bool,
+    s: bool,
+    imm: u64,
+    rs1: NodeRef,
+    c: NodeRef,
+) -> Made
+    ensures { λ r. ⌜ Gives (now (list .entry)) t (addiResult z s imm (rs1 .0) (c .0)) (now (list .exit)) (r .tally) (r .node .0) ⌝ }
 {
     if z {
         return Made {
@@ -43,7 +51,7 @@ fn sum_with_constant(
     ensures { λ r. ⌜ Gives (now (list .entry)) t (sumWithConstant z s (operandsOf e) (flowsOf f) imm) (now (list .exit)) (r .tally) (modeledOf r) ⌝ }
 {
     let c = new_const(list, t, imm);
-    let x = addend(list, c.tally, z, s, imm, e.rs1, c.node);
+    let x = addi_result(list, c.tally, z, s, imm, e.rs1, c.node);
     let overflow = check_addition_overflow(
         list,
         x.tally,

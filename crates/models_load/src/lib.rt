@@ -16,7 +16,7 @@ use models_address::bit_offset;
 use models_address::model_address;
 use models_address::word_address;
 use models_counted::counted_read;
-ghost use Rattle.models.specs.Counters.{modelL, modelLd, load};
+ghost use Rattle.models.specs.Counters.{modelL, modelLd, modelLoad};
 ghost use Rattle.builder.specs.Gives.{Gives};
 ghost use Rattle.models.specs.Code.{operandsOf, flowsOf, modeledOf};
 
@@ -98,7 +98,7 @@ pub fn load(
     spare: u64,
     signed: bool,
 ) -> Modeled
-    ensures { λ r. ⌜ Gives (now (list .entry)) t (load (operandsOf e) (flowsOf f) z imm spare signed) (now (list .exit)) (r .tally) (modeledOf r) ⌝ }
+    ensures { λ r. ⌜ Gives (now (list .entry)) t (modelLoad (operandsOf e) (flowsOf f) z imm spare signed) (now (list .exit)) (r .tally) (modeledOf r) ⌝ }
 {
     let address = model_address(list, t, z, imm, e.rs1);
     model_l(list, address.tally, e, f, spare, signed, address.node)

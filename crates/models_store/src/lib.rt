@@ -18,7 +18,7 @@ use models_address::bit_offset;
 use models_address::model_address;
 use models_address::word_address;
 use models_counted::counted_read;
-ghost use Rattle.models.specs.Counters.{modelS, modelSd, store};
+ghost use Rattle.models.specs.Counters.{modelS, modelSd, modelStore};
 ghost use Rattle.builder.specs.Gives.{Gives};
 ghost use Rattle.models.specs.Code.{operandsOf, flowsOf, modeledOf};
 
@@ -113,7 +113,7 @@ pub fn store(
     imm: u64,
     ones: u64,
 ) -> Modeled
-    ensures { λ r. ⌜ Gives (now (list .entry)) t (store (operandsOf e) (flowsOf f) z imm ones) (now (list .exit)) (r .tally) (modeledOf r) ⌝ }
+    ensures { λ r. ⌜ Gives (now (list .entry)) t (modelStore (operandsOf e) (flowsOf f) z imm ones) (now (list .exit)) (r .tally) (modeledOf r) ⌝ }
 {
     let address = model_address(list, t, z, imm, e.rs1);
     model_s(list, address.tally, e, f, ones, address.node)

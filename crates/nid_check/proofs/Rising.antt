@@ -20,7 +20,7 @@ use Rattle.nid_check.specs.declared.Rise.the-variants.{To, Out}
 use Rattle.nid_check.specs.Identifiers.{hasInit, takenBy, taken, rising, reserved}
 use Rattle.nid_check.specs.Inside.{nidOut, riseOf}
 
--- the identifiers behind `last` break the rule
+-- the identifiers after `last` break the rule
 abbrev pub outFrom : ℕ → ℕ → List ℕ → Bool
 outFrom next last ts = not (rising last ts) || (any reserved ts || (leb next 17 || any (leb next) ts))
 

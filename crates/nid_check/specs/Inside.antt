@@ -7,7 +7,7 @@ use Rattle.nid_check.specs.declared.Rise.{Rise}
 use Rattle.nid_check.specs.declared.Rise.the-variants.{To, Out}
 use Rattle.nid_check.specs.Identifiers.{hasInit, reserved}
 
--- an identifier that may not stand behind `last` and before `next`
+-- an identifier that may not stand after `last` and before `next`
 abbrev pub nidOut : ℕ → ℕ → ℕ → Bool
 nidOut next last t = leb t last || (reserved t || leb next t)
 

@@ -51,7 +51,7 @@ pub fn nids_out(list: &[u64], lines: usize, next: u64) -> bool
     false
 }
 
-// The identifiers that line i takes, behind the last one taken before it.
+// The identifiers that line i takes, after the last one taken before it.
 fn line_rises(list: &[u64], i: usize, last: u64, next: u64) -> Rise
     ensures { λ r. ⌜ r ≡ cond (holds (now (list .entry)) i) (riseOf next last (nodeOf (lineAt (now (list .entry)) (i * stride)))) Out ⌝ }
 {
@@ -99,24 +99,12 @@ fn has_init(line: Line) -> bool
 fn nid_out(nid: u64, last: u64, next: u64) -> bool
     ensures { λ r. ⌜ r ≡ nidOut next last nid ⌝ }
 {
-    if nid <= last {
-        return true;
-    }
-    if is_reserved(nid) {
-        return true;
-    }
-    next <= nid
+    (nid <= last) | (is_reserved(nid) | (next <= nid))
 }
 
 // The identifiers 0 to 3 and those of the input sorts.
 fn is_reserved(nid: u64) -> bool
     ensures { λ r. ⌜ r ≡ reserved nid ⌝ }
 {
-    if nid < 4 {
-        return true;
-    }
-    if nid < 11 {
-        return false;
-    }
-    nid <= LAST_SORT
+    (nid < 4) | ((11 <= nid) & (nid <= LAST_SORT))
 }

@@ -1,11 +1,11 @@
--- The pieces of a row, one behind the other, are the row. Assumes nothing.
+-- The pieces of a row, one after the other, are the row. Assumes nothing.
 use Prim.Native.Nat.{ℕ}
 use mathlib.Core.Path.{_≡_}
 use mathlib.Core.Bool.{true, false}
 use mathlib.Core.List.{List, [], _∷_, _++_, append-nil, append-assoc}
 use Rattle.text.specs.Numeral.{decimalText}
 use Rattle.node_text.specs.Words.{spaced}
-use Rattle.node_text.specs.Row.{written}
+use Rattle.node_text.specs.Row.{rowText}
 
 -- the same pieces in another grouping: space s, identifier n, word w, first number x, and what ends the row
 module _ (s n w x end : List ℕ) where
@@ -31,22 +31,22 @@ module _ (nid a : ℕ) (w : List ℕ) where
   abbrev head : List ℕ
   head = decimalText nid ++ spaced w ++ decimalText a
 
-  pub one-row : head ++ (10 ∷ []) ≡ written nid w (a ∷ []) false []
-  unfolding written
+  pub one-row : head ++ (10 ∷ []) ≡ rowText nid w (a ∷ []) false []
+  unfolding rowText
   one-row = one-piece (32 ∷ []) (decimalText nid) w (decimalText a) (10 ∷ [])
 
-  pub two-row : (b : ℕ) → head ++ (32 ∷ decimalText b) ++ (10 ∷ []) ≡ written nid w (a ∷ b ∷ []) false []
-  unfolding written
+  pub two-row : (b : ℕ) → head ++ (32 ∷ decimalText b) ++ (10 ∷ []) ≡ rowText nid w (a ∷ b ∷ []) false []
+  unfolding rowText
   two-row b = two-pieces (32 ∷ []) (decimalText nid) w (decimalText a) (10 ∷ []) (decimalText b)
 
-  pub three-row : (b c : ℕ) → head ++ (32 ∷ decimalText b) ++ (32 ∷ decimalText c) ++ (10 ∷ []) ≡ written nid w (a ∷ b ∷ c ∷ []) false []
-  unfolding written
+  pub three-row : (b c : ℕ) → head ++ (32 ∷ decimalText b) ++ (32 ∷ decimalText c) ++ (10 ∷ []) ≡ rowText nid w (a ∷ b ∷ c ∷ []) false []
+  unfolding rowText
   three-row b c = three-pieces (32 ∷ []) (decimalText nid) w (decimalText a) (10 ∷ []) (decimalText b) (decimalText c)
 
-  pub four-row : (b c d : ℕ) → head ++ (32 ∷ decimalText b) ++ (32 ∷ decimalText c) ++ (32 ∷ decimalText d) ++ (10 ∷ []) ≡ written nid w (a ∷ b ∷ c ∷ d ∷ []) false []
-  unfolding written
+  pub four-row : (b c d : ℕ) → head ++ (32 ∷ decimalText b) ++ (32 ∷ decimalText c) ++ (32 ∷ decimalText d) ++ (10 ∷ []) ≡ rowText nid w (a ∷ b ∷ c ∷ d ∷ []) false []
+  unfolding rowText
   four-row b c d = four-pieces (32 ∷ []) (decimalText nid) w (decimalText a) (10 ∷ []) (decimalText b) (decimalText c) (decimalText d)
 
-  pub named-row : (name : List ℕ) → head ++ (32 ∷ []) ++ name ++ (10 ∷ []) ≡ written nid w (a ∷ []) true name
-  unfolding written
+  pub named-row : (name : List ℕ) → head ++ (32 ∷ []) ++ name ++ (10 ∷ []) ≡ rowText nid w (a ∷ []) true name
+  unfolding rowText
   named-row name = named-pieces (32 ∷ []) (decimalText nid) w (decimalText a) (10 ∷ []) name

@@ -1,5 +1,5 @@
--- Past the last word there is none; and what is put into an array is read back. Assumes nothing.
-use Prim.Native.Nat.{ℕ, suc, _+_, _^_, _≤_, _<_}
+-- Past the last kindWord there is none; and what is put into an array is read back. Assumes nothing.
+use Prim.Native.Nat.{ℕ, _+_, _^_, _≤_, _<_}
 use mathlib.Core.Path.{_≡_, ap}
 use mathlib.Core.List.{List, [], append-assoc}
 use native.Mathlib.Omega.{arith}
@@ -7,14 +7,11 @@ use lib.ListN.{length, take, drop, List·getD-eq-default}
 use lib.Seq.{take-append-seam}
 use Rattle.text.specs.Put.{Put}
 use Rattle.text.proofs.Laws.{put-is}
-use Rattle.node_text.specs.Words.{ascii, words, word}
+use Rattle.text.specs.Ascii.{ascii}
+use Rattle.node_text.specs.Words.{kindWords, kindWord}
 
-pub past : (k : ℕ) → 23 ≤ k → word k ≡ []
-past k h = ap ascii (List·getD-eq-default words "" h)
-
--- a number that is none of those before is past them
-pub beyond : {n k : ℕ} → n ≤ k → (k ≡ n → ⊥) → suc n ≤ k
-beyond h e = omega arith
+pub no-word : (k : ℕ) → 23 ≤ k → kindWord k ≡ []
+no-word k h = ap ascii (List·getD-eq-default kindWords "" h)
 
 -- a piece at the start of an output with room for it is read back
 pub read-back : {l l′ s : List ℕ} {r : ℕ} → Put l 0 s l′ r → r ≤ length l → length l < 2 ^ 63 → (r ≡ length s) × (take r l′ ≡ s)

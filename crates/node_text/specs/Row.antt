@@ -2,13 +2,8 @@
 use Prim.Native.Nat.{ℕ}
 use mathlib.Core.Bool.{Bool, true, false}
 use mathlib.Core.List.{List, [], _∷_, _++_}
+use Rattle.text.specs.Ascii.{space, newline}
 use Rattle.text.specs.Numeral.{decimalText}
-
-abbrev space : List ℕ
-space = 32 ∷ []
-
-abbrev newline : List ℕ
-newline = 10 ∷ []
 
 -- a name, where there is one
 abbrev pub nameText : Bool → List ℕ → List ℕ
@@ -19,5 +14,5 @@ abbrev pub numbersText : List ℕ → List ℕ
 numbersText [] = []
 numbersText (x ∷ xs) = space ++ decimalText x ++ numbersText xs
 
-unfoldable pub written : ℕ → List ℕ → List ℕ → Bool → List ℕ → List ℕ
-written nid word numbers named name = decimalText nid ++ space ++ word ++ numbersText numbers ++ nameText named name ++ newline
+unfoldable pub rowText : ℕ → List ℕ → List ℕ → Bool → List ℕ → List ℕ
+rowText nid word numbers named name = decimalText nid ++ space ++ word ++ numbersText numbers ++ nameText named name ++ newline

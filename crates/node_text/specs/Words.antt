@@ -1,21 +1,13 @@
 -- The words of node lines, as unicorn's `write_model` prints them.
-use Prim.Native.Nat.{ℕ, zero, suc}
-use Prim.Native.Char.{code}
-use Prim.Native.String.{String, len, charAt}
+use Prim.Native.Nat.{ℕ}
+use Prim.Native.String.{String}
 use mathlib.Core.List.{List, [], _∷_, _++_}
 use lib.ListN.{getD}
-
--- the codes of n ASCII characters of a text from place i on, and of all of it
-abbrev pub codes : String → ℕ → ℕ → List ℕ
-codes s i zero = []
-codes s i (suc n) = code (charAt s i) ∷ codes s (suc i) n
-
-abbrev pub ascii : String → List ℕ
-ascii s = codes s 0 (len s)
+use Rattle.text.specs.Ascii.{ascii, space}
 
 -- the word of each kind, at its number (btor2_list/specs/Node); `init`, the word of a State's second row, stands before them
-abbrev pub words : List String
-words =
+abbrev pub kindWords : List String
+kindWords =
     "init"
     ∷ "constd"
     ∷ "read"
@@ -42,9 +34,9 @@ words =
     ∷ []
 
 -- no bytes past the last
-abbrev pub word : ℕ → List ℕ
-word k = ascii (getD words k "")
+abbrev pub kindWord : ℕ → List ℕ
+kindWord k = ascii (getD kindWords k "")
 
 -- a space on each side
 abbrev pub spaced : List ℕ → List ℕ
-spaced w = 32 ∷ w ++ (32 ∷ [])
+spaced w = space ++ w ++ space

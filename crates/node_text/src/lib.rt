@@ -12,8 +12,8 @@ ghost use Prim.Native.Nat.{_+_, _≤_};
 ghost use lib.ListN.{length, take};
 ghost use Rattle.text.specs.Numeral.{decimalText};
 ghost use Rattle.text.specs.Put.{Put};
-ghost use Rattle.node_text.specs.Words.{word, spaced};
-ghost use Rattle.node_text.specs.Row.{written};
+ghost use Rattle.node_text.specs.Words.{kindWord, spaced};
+ghost use Rattle.node_text.specs.Row.{rowText};
 
 // The bytes of the longest row without a name: five numbers of 20 digits, a word and its spaces, three spaces more and a newline.
 const LONGEST: usize = 112;
@@ -30,7 +30,7 @@ pub fn put_row(
     b: u64,
     c: u64,
 ) -> usize
-    ensures { λ r. ⌜ Put (now (out .entry)) at (written nid (word k) (sort ∷ take count (a ∷ b ∷ c ∷ [])) false []) (now (out .exit)) r ⌝ }
+    ensures { λ r. ⌜ Put (now (out .entry)) at (rowText nid (kindWord k) (sort ∷ take count (a ∷ b ∷ c ∷ [])) false []) (now (out .exit)) r ⌝ }
 {
     if has_room(out.len(), at) {
         return row_in(out, at, nid, k, sort, count, a, b, c);
@@ -42,7 +42,7 @@ pub fn put_row(
 
 // A row with one number and a name.
 pub fn put_named(out: &mut [u8], at: usize, nid: u64, k: usize, a: u64, name: &[u8]) -> usize
-    ensures { λ r. ⌜ Put (now (out .entry)) at (written nid (word k) (a ∷ []) true (now (name .entry))) (now (out .exit)) r ⌝ }
+    ensures { λ r. ⌜ Put (now (out .entry)) at (rowText nid (kindWord k) (a ∷ []) true (now (name .entry))) (now (out .exit)) r ⌝ }
 {
     let number = put_head(out, at, nid, k, a);
     let space = text::put_byte(out, number, 32);
@@ -53,7 +53,7 @@ pub fn put_named(out: &mut [u8], at: usize, nid: u64, k: usize, a: u64, name: &[
 // What stands in front of a name: few lines have one, so that it is put by way of an array, with no test of room. Why it does not call
 // `head_in`, docs/DECISIONS.md says.
 fn put_head(out: &mut [u8], at: usize, nid: u64, k: usize, a: u64) -> usize
-    ensures { λ r. ⌜ Put (now (out .entry)) at (decimalText nid ++ spaced (word k) ++ decimalText a) (now (out .exit)) r ⌝ }
+    ensures { λ r. ⌜ Put (now (out .entry)) at (decimalText nid ++ spaced (kindWord k) ++ decimalText a) (now (out .exit)) r ⌝ }
 {
     let mut head = [0u8; 112];
     let p = put_in(&mut head, 0, nid);
@@ -85,7 +85,7 @@ fn row_in(
     c: u64,
 ) -> usize
     requires { ⌜ at + 112 ≤ length (now out) ⌝ }
-    ensures { λ r. ⌜ Put (now (out .entry)) at (written nid (word k) (sort ∷ take count (a ∷ b ∷ c ∷ [])) false []) (now (out .exit)) r × (r ≤ at + 112) ⌝ }
+    ensures { λ r. ⌜ Put (now (out .entry)) at (rowText nid (kindWord k) (sort ∷ take count (a ∷ b ∷ c ∷ [])) false []) (now (out .exit)) r × (r ≤ at + 112) ⌝ }
 {
     let head = head_in(out, at, nid, k, sort);
     if count == 0 {
@@ -106,7 +106,7 @@ fn row_in(
 // An identifier, a word and the first number: most are sorts of one digit.
 fn head_in(out: &mut [u8], at: usize, nid: u64, k: usize, a: u64) -> usize
     requires { ⌜ at + 48 ≤ length (now out) ⌝ }
-    ensures { λ r. ⌜ Put (now (out .entry)) at (decimalText nid ++ spaced (word k) ++ decimalText a) (now (out .exit)) r × (r ≤ at + 48) ⌝ }
+    ensures { λ r. ⌜ Put (now (out .entry)) at (decimalText nid ++ spaced (kindWord k) ++ decimalText a) (now (out .exit)) r × (r ≤ at + 48) ⌝ }
 {
     let p = put_in(out, at, nid);
     let q = put_word_in(out, p, k);

@@ -3,12 +3,12 @@ ghost use mathlib.Core.List.{[], _∷_};
 ghost use Prim.Native.Nat.{_+_, _≤_};
 ghost use lib.ListN.{length};
 ghost use Rattle.text.specs.Put.{Put};
-ghost use Rattle.node_text.specs.Words.{word, spaced};
+ghost use Rattle.node_text.specs.Words.{kindWord, spaced};
 
 // The word and its spaces where there is room for the longest: bytes that stand in the code, stored with no tests.
 pub(crate) fn put_word_in(out: &mut [u8], at: usize, k: usize) -> usize
     requires { ⌜ at + 8 ≤ length (now out) ⌝ }
-    ensures { λ r. ⌜ Put (now (out .entry)) at (spaced (word k)) (now (out .exit)) r × (r ≤ at + 8) ⌝ }
+    ensures { λ r. ⌜ Put (now (out .entry)) at (spaced (kindWord k)) (now (out .exit)) r × (r ≤ at + 8) ⌝ }
 {
     match k {
         0 => four(out, at, b'i', b'n', b'i', b't'),

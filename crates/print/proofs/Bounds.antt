@@ -10,7 +10,7 @@ use borrow.Author.Tests.{lt-ltb, le-ltb, ltb-false}
 use Rattle.bitvec.proofs.Base.{by-le}
 use Rattle.btor2_list.specs.Record.{stride}
 use Rattle.list_check.specs.Lines.{pastWords}
-use Rattle.print.specs.Printing.{nidsOut, boundsOut}
+use Rattle.print.specs.Printing.{nidsTooLarge, boundsOut}
 use Rattle.print.specs.Room.{runOut}
 
 -- a sum, and a difference that does not wrap
@@ -36,13 +36,13 @@ none-of false false true e = absurd (true≢false e)
 none-of false false false e = (refl, refl, refl)
 
 module _ (ws : List ℕ) (lines from count : ℕ) where
-  pub in-run : runOut ws lines from count ≡ false → boundsOut ws lines from count ≡ nidsOut ws lines
+  pub in-run : runOut ws lines from count ≡ false → boundsOut ws lines from count ≡ nidsTooLarge ws lines
   unfolding boundsOut
-  in-run e = one-more (ltb 1048576 lines) (pastWords ws lines) (ltb lines (from + count)) (nidsOut ws lines) e
+  in-run e = one-more (ltb 1048576 lines) (pastWords ws lines) (ltb lines (from + count)) (nidsTooLarge ws lines) e
 
   pub out-of-run : runOut ws lines from count ≡ true → boundsOut ws lines from count ≡ true
   unfolding boundsOut
-  out-of-run e = first-three (ltb 1048576 lines) (pastWords ws lines) (ltb lines (from + count)) (nidsOut ws lines) e
+  out-of-run e = first-three (ltb 1048576 lines) (pastWords ws lines) (ltb lines (from + count)) (nidsTooLarge ws lines) e
 
   pub inside : runOut ws lines from count ≡ false → (lines ≤ 1048576) × (lines ≤ length ws / stride) × (from + count ≤ lines)
   inside e =

@@ -10,16 +10,16 @@ use borrow.Author.Tests.{ltb-false}
 use Rattle.list_check.proofs.Some.{some-none}
 use Rattle.line_text.specs.Line.{nodes, nidAt}
 use Rattle.line_text.proofs.Listed.{length-nodes, nid-outside}
-use Rattle.print.specs.Printing.{nidOut, nidsOut}
+use Rattle.print.specs.Printing.{nidTooLarge, nidsTooLarge}
 
-module _ (ws : List ℕ) (lines : ℕ) (in-bounds : nidsOut ws lines ≡ false) (p : ℕ) where
+module _ (ws : List ℕ) (lines : ℕ) (in-bounds : nidsTooLarge ws lines ≡ false) (p : ℕ) where
   pub nid-most : nidAt (nodes ws lines) p ≤ 2 ^ 31 + 2097152
-  unfolding nidsOut
+  unfolding nidsTooLarge
   nid-most = go (decLe lines p)
     where
       go : Dec (lines ≤ p) → nidAt (nodes ws lines) p ≤ 2 ^ 31 + 2097152
       go (yes h) = rw (nid-outside ws lines p (omega (arith, length-nodes ws lines p))) (omega arith)
-      go (no h) = ltb-false (2 ^ 31 + 2097152) (nidAt (nodes ws lines) p) (some-none lines (nidOut ws lines) in-bounds p (omega arith))
+      go (no h) = ltb-false (2 ^ 31 + 2097152) (nidAt (nodes ws lines) p) (some-none lines (nidTooLarge ws lines) in-bounds p (omega arith))
 
   pub as-u32 : nidAt (nodes ws lines) p % 2 ^ 32 ≡ nidAt (nodes ws lines) p
   as-u32 = mod-eq-of-lt (omega (arith, nid-most))

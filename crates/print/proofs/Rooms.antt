@@ -21,20 +21,21 @@ use Rattle.btor2.specs.declared.MaybeSort.the-variants.{Sort, NoSort}
 use Rattle.btor2.specs.Sort.{sortNumber, sortNumbered, width}
 use Rattle.btor2.specs.Op.{Bin, add, sub, mul, udiv, sdiv, urem, sll, srl, ult, Op, const, read, write, bin, uext, ite, eq, and, or, not, state, stateInit, next, input, bad, unknown, mapOp, binSort}
 use Rattle.btor2_list.specs.declared.Line.{Line}
-use Rattle.btor2_list.specs.Record.{stride, named, lineAt}
+use Rattle.btor2_list.specs.Record.{stride, hasName, lineAt}
 use Rattle.btor2_list.specs.Node.{Node, withSort, opOf}
-use Rattle.node_text.specs.Words.{ascii}
-use Rattle.node_text.specs.Row.{nameText, numbersText, written}
+use Rattle.text.specs.Ascii.{ascii}
+use Rattle.node_text.specs.Row.{nameText, numbersText, rowText}
 use Rattle.record_text.specs.Line.{binWord, lineText, printedName}
 use Rattle.line_text.specs.Line.{nodes, nodeAt, nidAt, nodeText, runText}
 use Rattle.print.proofs.Each.{Each, none, _▹_, at}
-use Rattle.record_text.proofs.KnownKinds.{of-kind, kind-unknown}
+use Rattle.btor2_list.proofs.NoKind.{outside}
+use Rattle.record_text.proofs.KnownKinds.{of-kind}
 use Rattle.line_text.proofs.Listed.{got}
 use Rattle.line_text.proofs.Runs.{run-none, run-on}
-use Rattle.print.specs.Printing.{nidsOut}
+use Rattle.print.specs.Printing.{nidsTooLarge}
 use Rattle.list_check.specs.declared.Checked.the-variants.{Unformed, Unnamed, Named}
 use Rattle.list_check.specs.Scan.{scanUnformed, nameLength, scanLine}
-use Rattle.print.specs.Room.{said, roomOf, rooms, roomWith}
+use Rattle.print.specs.Room.{said, nameRoom, rooms, roomWith}
 use Rattle.print.proofs.Identifiers.{nid-most}
 
 -- ---- pieces
@@ -75,10 +76,10 @@ number : (x : ℕ) (xs : List ℕ) → length (numbersText (x ∷ xs)) ≡ 1 + l
 number x xs = simp length-append (omega arith)
 
 -- a row's length
-row : (nid : ℕ) (word numbers : List ℕ) (named : Bool) (name : List ℕ) → length (written nid word numbers named name)
-    ≡ length (decimalText nid) + length word + length (numbersText numbers) + length (nameText named name) + 2
-unfolding written
-row nid word numbers named name = simp length-append (omega arith)
+row : (nid : ℕ) (word numbers : List ℕ) (hasName : Bool) (name : List ℕ) → length (rowText nid word numbers hasName name)
+    ≡ length (decimalText nid) + length word + length (numbersText numbers) + length (nameText hasName name) + 2
+unfolding rowText
+row nid word numbers hasName name = simp length-append (omega arith)
 
 either : (b : Bool) (s t : List ℕ) (k : ℕ) → length s ≤ k → length t ≤ k → length (cond b s t) ≤ k
 either true s t k h h′ = h
@@ -100,7 +101,7 @@ name-most host ours m =
 -- ---- a line
 
 module _ (names : Name → List ℕ) (f : ℕ → ℕ) (nid : ℕ) (small : (q : ℕ) → f q < 10000000000) (own : nid + 1 < 10000000000) (short : (m : Name) → length (names m) ≤ 1 + m .len) where
-  line-most : (o : Op ℕ) → length (lineText names nid (mapOp f o)) ≤ 53 + roomOf o
+  line-most : (o : Op ℕ) → length (lineText names nid (mapOp f o)) ≤ 53 + nameRoom o
   unfolding lineText mapOp
   line-most (const s n) =
       omega (arith, row nid (ascii "constd") ((sortNumber s) ∷ (n) ∷ []) false [], ten nid (omega arith), number (sortNumber s) ((n) ∷ []), sort-two s, number (n) [], numeral-length 10 20 n)
@@ -125,7 +126,7 @@ module _ (names : Name → List ℕ) (f : ℕ → ℕ) (nid : ℕ) (small : (q :
   line-most (state s m) =
       omega (arith, row nid (ascii "state") ((sortNumber s) ∷ []) true (names m), ten nid (omega arith), number (sortNumber s) [], sort-two s, short m)
   line-most (stateInit s a m) =
-      omega (arith, row nid (ascii "state") ((sortNumber s) ∷ []) true (names m), ten nid (omega arith), number (sortNumber s) [], sort-two s, short m, row ((nid + 1) % 2 ^ 64) (ascii "init") ((sortNumber s) ∷ (nid) ∷ (f a) ∷ []) false [], ten ((nid + 1) % 2 ^ 64) (omega arith), number (sortNumber s) ((nid) ∷ (f a) ∷ []), sort-two s, number (nid) ((f a) ∷ []), ten nid (omega arith), number (f a) [], ten (f a) (small a), length-append (written nid (ascii "state") (sortNumber s ∷ []) true (names m)) (written ((nid + 1) % 2 ^ 64) (ascii "init") (sortNumber s ∷ nid ∷ f a ∷ []) false []))
+      omega (arith, row nid (ascii "state") ((sortNumber s) ∷ []) true (names m), ten nid (omega arith), number (sortNumber s) [], sort-two s, short m, row ((nid + 1) % 2 ^ 64) (ascii "init") ((sortNumber s) ∷ (nid) ∷ (f a) ∷ []) false [], ten ((nid + 1) % 2 ^ 64) (omega arith), number (sortNumber s) ((nid) ∷ (f a) ∷ []), sort-two s, number (nid) ((f a) ∷ []), ten nid (omega arith), number (f a) [], ten (f a) (small a), length-append (rowText nid (ascii "state") (sortNumber s ∷ []) true (names m)) (rowText ((nid + 1) % 2 ^ 64) (ascii "init") (sortNumber s ∷ nid ∷ f a ∷ []) false []))
   line-most (next s a b) =
       omega (arith, row nid (ascii "next") ((sortNumber s) ∷ (f a) ∷ (f b) ∷ []) false [], ten nid (omega arith), number (sortNumber s) ((f a) ∷ (f b) ∷ []), sort-two s, number (f a) ((f b) ∷ []), ten (f a) (small a), number (f b) [], ten (f b) (small b))
   line-most (input s m) =
@@ -141,16 +142,16 @@ unfolding rooms
 rooms-on ws n zero = rw add-zero (omega arith)
 rooms-on ws n (suc k) = let e : n + suc k ≡ suc (n + k) = omega arith in rw e (omega (arith, rooms-on ws n k))
 
-pub rooms-suc : (ws : List ℕ) (n : ℕ) → rooms ws (n + 1) ≡ rooms ws n + roomOf (said ws n)
+pub rooms-suc : (ws : List ℕ) (n : ℕ) → rooms ws (n + 1) ≡ rooms ws n + nameRoom (said ws n)
 unfolding rooms
 rooms-suc ws n = rw add-one
 
-module _ (ws : List ℕ) (lines : ℕ) (host ours : List ℕ) (in-bounds : nidsOut ws lines ≡ false) (held : lines ≤ length ws / stride) where
-  at-place : (p : ℕ) → p < lines → length (nodeText host ours (nodes ws lines) (nodeAt (nodes ws lines) p)) ≤ 53 + roomOf (said ws p)
+module _ (ws : List ℕ) (lines : ℕ) (host ours : List ℕ) (in-bounds : nidsTooLarge ws lines ≡ false) (held : lines ≤ length ws / stride) where
+  at-place : (p : ℕ) → p < lines → length (nodeText host ours (nodes ws lines) (nodeAt (nodes ws lines) p)) ≤ 53 + nameRoom (said ws p)
   at-place p h =
       let there : p < length ws / stride = omega arith in
       let is = got ws lines p (lineAt ws (p * stride)) (rw (lt-ltb _ _ there)) h in
-      let e : roomOf (nodeAt (nodes ws lines) p .op) ≡ roomOf (said ws p) = ap (λ (n : Node). roomOf (n .op)) is in
+      let e : nameRoom (nodeAt (nodes ws lines) p .op) ≡ nameRoom (said ws p) = ap (λ (n : Node). nameRoom (n .op)) is in
       let most = line-most (printedName host ours) (nidAt (nodes ws lines)) (nidAt (nodes ws lines) p) (λ q. omega (arith, nid-most ws lines in-bounds q)) (omega (arith, nid-most ws lines in-bounds p)) (name-most host ours) (nodeAt (nodes ws lines) p .op) in
       omega (arith, e, most)
 
@@ -172,17 +173,17 @@ module _ (ws : List ℕ) (lines : ℕ) (host ours : List ℕ) (in-bounds : nidsO
 
 module _ (l : Line) where
   abbrev most : ℕ → ℕ
-  most k = cond (named k) (10 + l .name .len) 0
+  most k = cond (hasName k) (10 + l .name .len) 0
 
-  sorted : (m : MaybeSort) (g : NodeType → Op ℕ) (n : ℕ) → ((s : NodeType) → roomOf (g s) ≤ n) → roomOf (withSort m g) ≤ n
+  sorted : (m : MaybeSort) (g : NodeType → Op ℕ) (n : ℕ) → ((s : NodeType) → nameRoom (g s) ≤ n) → nameRoom (withSort m g) ≤ n
   sorted (Sort s) g n h = h s
   sorted NoSort g n h = omega arith
 
-  one-of : (b : Bool) (o p : Op ℕ) (n : ℕ) → roomOf o ≤ n → roomOf p ≤ n → roomOf (cond b o p) ≤ n
+  one-of : (b : Bool) (o p : Op ℕ) (n : ℕ) → nameRoom o ≤ n → nameRoom p ≤ n → nameRoom (cond b o p) ≤ n
   one-of true o p n h h′ = h
   one-of false o p n h h′ = h′
 
-  each : Each (λ k. roomOf (opOf (of-kind k l)) ≤ most k) 23
+  each : Each (λ k. nameRoom (opOf (of-kind k l)) ≤ most k) 23
   unfolding opOf
   each =
       none
@@ -210,11 +211,11 @@ module _ (l : Line) where
       ▹ sorted (sortNumbered (l .sort)) _ _ (λ s. omega arith)
       ▹ omega arith
 
-  room-most : roomOf (opOf l) ≤ most (l .kind)
+  room-most : nameRoom (opOf l) ≤ most (l .kind)
   room-most = go (decLe 23 (l .kind))
     where
-      go : Dec (23 ≤ l .kind) → roomOf (opOf l) ≤ most (l .kind)
-      go (yes h) = rw (kind-unknown l h) (omega arith)
+      go : Dec (23 ≤ l .kind) → nameRoom (opOf l) ≤ most (l .kind)
+      go (yes h) = rw (outside l (λ _. h)) (omega arith)
       go (no h) = at each (l .kind) (omega arith)
 
 -- what the check of a line finds tells whether it is well formed, and the room for its name
@@ -222,13 +223,13 @@ module _ (ws : List ℕ) (i host ours names r : ℕ) where
   abbrev line : Line
   line = lineAt ws (i * stride)
 
-  by-kind : (b : Bool) → named (line .kind) ≡ b → roomWith (cond b (Named (line .name .len)) Unnamed) names r → names + roomOf (said ws i) ≤ r
+  by-kind : (b : Bool) → hasName (line .kind) ≡ b → roomWith (cond b (Named (line .name .len)) Unnamed) names r → names + nameRoom (said ws i) ≤ r
   by-kind true e h = omega (arith, rw e at (room-most line))
   by-kind false e h = omega (arith, rw e at (room-most line))
 
-  pub told : roomWith (scanLine ws i host ours) names r → (scanUnformed ws i host ours ≡ false) × (names + roomOf (said ws i) ≤ r)
+  pub told : roomWith (scanLine ws i host ours) names r → (scanUnformed ws i host ours ≡ false) × (names + nameRoom (said ws i) ≤ r)
   told h = go (scanUnformed ws i host ours) refl h
     where
-      go : (b : Bool) → scanUnformed ws i host ours ≡ b → roomWith (cond b Unformed (nameLength line)) names r → (scanUnformed ws i host ours ≡ false) × (names + roomOf (said ws i) ≤ r)
+      go : (b : Bool) → scanUnformed ws i host ours ≡ b → roomWith (cond b Unformed (nameLength line)) names r → (scanUnformed ws i host ours ≡ false) × (names + nameRoom (said ws i) ≤ r)
       go true e h = absurd h
-      go false e h = (e, by-kind (named (line .kind)) refl h)
+      go false e h = (e, by-kind (hasName (line .kind)) refl h)

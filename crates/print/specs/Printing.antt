@@ -28,17 +28,17 @@ abbrev pub outcome : Answer → List ℕ → Outcome
 outcome a out = record { answer = a; output = out }
 
 -- "a line's identifier above" 2^31 + 2,097,152
-abbrev pub nidOut : List ℕ → ℕ → ℕ → Bool
-nidOut ws lines p = ltb (2 ^ 31 + 2097152) (nidAt (nodes ws lines) p)
+abbrev pub nidTooLarge : List ℕ → ℕ → ℕ → Bool
+nidTooLarge ws lines p = ltb (2 ^ 31 + 2097152) (nidAt (nodes ws lines) p)
 
-unfoldable pub nidsOut : List ℕ → ℕ → Bool
-nidsOut ws lines = some lines (nidOut ws lines)
+unfoldable pub nidsTooLarge : List ℕ → ℕ → Bool
+nidsTooLarge ws lines = some lines (nidTooLarge ws lines)
 
 -- 9: "more than 1,048,576 lines; [..] a line's identifier above that sum or a run outside the list when printing; or a count above its storage"
 unfoldable pub boundsOut : List ℕ → ℕ → ℕ → ℕ → Bool
-boundsOut ws lines from count = ltb 1048576 lines || (pastWords ws lines || (ltb lines (from + count) || nidsOut ws lines))
+boundsOut ws lines from count = ltb 1048576 lines || (pastWords ws lines || (ltb lines (from + count) || nidsTooLarge ws lines))
 
--- the first refusal that applies, with the output as it was; or the text of the run at the output's start, and behind it what was there
+-- the first refusal that applies, with the output as it was; or the text of the run at the output's start, and after it what was there
 unfoldable pub printing : List ℕ → ℕ → List ℕ → List ℕ → ℕ → ℕ → List ℕ → Outcome
 printing ws lines host ours from count out =
     let text = runText host ours (nodes ws lines) from count in

@@ -13,35 +13,35 @@ use Rattle.list_check.specs.declared.Checked.the-variants.{Unformed, Unnamed, N
 use Rattle.list_check.specs.Lines.{some, pastWords}
 use Rattle.list_check.specs.Formed.{opUnformed, unformedWords}
 use Rattle.list_check.specs.Operand.{noValueAt}
-use Rattle.print.specs.Printing.{nidOut, nidsOut, boundsOut}
+use Rattle.print.specs.Printing.{nidTooLarge, nidsTooLarge, boundsOut}
 
 -- what the record at place p says
 abbrev pub said : List ℕ → ℕ → Op ℕ
 said ws p = opOf (lineAt ws (p * stride))
 
 -- how many bytes more than 53 a line takes at most: a named one has its name, or `?`, and perhaps a second row
-abbrev pub roomOf : Op ℕ → ℕ
-roomOf (const s n) = 0
-roomOf (read m a) = 0
-roomOf (write m a v) = 0
-roomOf (bin o a b) = 0
-roomOf (uext s a) = 0
-roomOf (ite s c a b) = 0
-roomOf (eq a b) = 0
-roomOf (and s a b) = 0
-roomOf (or s a b) = 0
-roomOf (not s a) = 0
-roomOf (state s m) = 10 + m .len
-roomOf (stateInit s a m) = 10 + m .len
-roomOf (next s a b) = 0
-roomOf (input s m) = 10 + m .len
-roomOf (bad a m) = 10 + m .len
-roomOf unknown = 0
+abbrev pub nameRoom : Op ℕ → ℕ
+nameRoom (const s n) = 0
+nameRoom (read m a) = 0
+nameRoom (write m a v) = 0
+nameRoom (bin o a b) = 0
+nameRoom (uext s a) = 0
+nameRoom (ite s c a b) = 0
+nameRoom (eq a b) = 0
+nameRoom (and s a b) = 0
+nameRoom (or s a b) = 0
+nameRoom (not s a) = 0
+nameRoom (state s m) = 10 + m .len
+nameRoom (stateInit s a m) = 10 + m .len
+nameRoom (next s a b) = 0
+nameRoom (input s m) = 10 + m .len
+nameRoom (bad a m) = 10 + m .len
+nameRoom unknown = 0
 
 -- of the first n lines
 unfoldable pub rooms : List ℕ → ℕ → ℕ
 rooms ws zero = 0
-rooms ws (suc n) = rooms ws n + roomOf (said ws n)
+rooms ws (suc n) = rooms ws n + nameRoom (said ws n)
 
 -- r is more than `names` by the room for the name of a line that the check finds so; one that is not well formed has none
 abbrev pub roomWith : Checked → ℕ → ℕ → Type 0
@@ -55,13 +55,13 @@ runOut ws lines from count = ltb 1048576 lines || (pastWords ws lines || ltb lin
 
 -- the first n lines have neither 9 nor 11, and r has room for their names
 pub record Surveyed (ws : List ℕ) (lines host ours n r : ℕ) : Type 0 where
-  pub nids : some n (nidOut ws lines) ≡ false
+  pub nids : some n (nidTooLarge ws lines) ≡ false
   pub formed : some n (λ p. opUnformed host ours (noValueAt ws p) (said ws p)) ≡ false
   pub room : rooms ws n ≤ r
 
 pub record Roomy (ws : List ℕ) (lines host ours from count end : ℕ) : Type 0 where
   pub in-bounds : boundsOut ws lines from count ≡ false
-  pub nids : nidsOut ws lines ≡ false
+  pub nids : nidsTooLarge ws lines ≡ false
   pub held : lines ≤ length ws / stride
   pub inside : from + count ≤ lines
   pub formed : unformedWords ws lines host ours ≡ false

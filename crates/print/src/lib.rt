@@ -7,7 +7,7 @@ ghost use Prim.Native.Nat.{_+_, _-_, _/_, _^_, _<_, _≤_, min};
 ghost use lib.ListN.{length};
 ghost use Rattle.line_text.specs.Line.{nodes, runText};
 ghost use Rattle.print.specs.Room.{runOut, roomWith, Surveyed, Roomy};
-ghost use Rattle.print.specs.Printing.{nidsOut, boundsOut, answerOf, outcome, printing};
+ghost use Rattle.print.specs.Printing.{nidsTooLarge, boundsOut, answerOf, outcome, printing};
 
 // The most lines that a list holds, and the largest identifier of a line.
 const MOST_LINES: usize = 1_048_576;
@@ -152,12 +152,12 @@ fn bounds_out(list: &[u64], lines: usize, from: usize, count: usize) -> bool
     if run_out(list, lines, from, count) {
         return true;
     }
-    nids_out(list, lines)
+    nids_too_large(list, lines)
 }
 
 // Some line has an identifier above the largest.
-fn nids_out(list: &[u64], lines: usize) -> bool
-    ensures { λ r. ⌜ r ≡ nidsOut (now (list .entry)) lines ⌝ }
+fn nids_too_large(list: &[u64], lines: usize) -> bool
+    ensures { λ r. ⌜ r ≡ nidsTooLarge (now (list .entry)) lines ⌝ }
 {
     let mut i = 0;
     while i < lines {
@@ -170,7 +170,7 @@ fn nids_out(list: &[u64], lines: usize) -> bool
     false
 }
 
-// The bytes of a run. The pieces of text give the place behind them past the end of an output too, so one byte serves to measure.
+// The bytes of a run. The pieces of text give the place after them past the end of an output too, so one byte serves to measure.
 fn run_len<'a>(
     list: &[u64],
     lines: usize,

@@ -9,15 +9,15 @@ use Rattle.btor2.specs.Sort.{sortNumber, width}
 use Rattle.btor2.specs.Op.{Bin, add, sub, mul, udiv, sdiv, urem, sll, srl, ult, Op, const, read, write, bin, uext, ite, eq, and, or, not, state, stateInit, next, input, bad, unknown, binSort}
 use Rattle.btor2_list.specs.declared.Line.{Line}
 use Rattle.btor2_name.specs.NameBytes.{nameBytes}
-use Rattle.node_text.specs.Words.{ascii}
-use Rattle.node_text.specs.Row.{written}
+use Rattle.text.specs.Ascii.{ascii}
+use Rattle.node_text.specs.Row.{rowText}
 
 -- `writeln!(out, "{} WORD {} ..", nid, numbers ..)`, and with one number and a name
-abbrev pub plain : ℕ → String → List ℕ → List ℕ
-plain nid word numbers = written nid (ascii word) numbers false []
+abbrev pub plainRow : ℕ → String → List ℕ → List ℕ
+plainRow nid word numbers = rowText nid (ascii word) numbers false []
 
-abbrev pub named : ℕ → String → ℕ → List ℕ → List ℕ
-named nid word number name = written nid (ascii word) (number ∷ []) true name
+abbrev pub namedRow : ℕ → String → ℕ → List ℕ → List ℕ
+namedRow nid word number name = rowText nid (ascii word) (number ∷ []) true name
 
 abbrev pub binWord : Bin → String
 binWord add = "add"
@@ -34,22 +34,22 @@ binWord ult = "ult"
 -- identifiers that pass refusal 9 the one changes nothing and the other does not wrap (crates/print/proofs/Identifiers). A line of unknown
 -- kind or sort has no text; it is refused with 11, and so is a uext from Memory, at which the Rust panics.
 unfoldable pub lineText : (Name → List ℕ) → ℕ → Op ℕ → List ℕ
-lineText names nid (const s imm) = plain nid "constd" (sortNumber s ∷ imm ∷ [])
-lineText names nid (read m a) = plain nid "read" (2 ∷ m ∷ a ∷ [])
-lineText names nid (write m a v) = plain nid "write" (3 ∷ m ∷ a ∷ v ∷ [])
-lineText names nid (bin o a b) = plain nid (binWord o) (sortNumber (binSort o) ∷ a ∷ b ∷ [])
-lineText names nid (uext from a) = plain nid "uext" (2 ∷ a ∷ (64 - width from) ∷ [])
-lineText names nid (ite s c a b) = plain nid "ite" (sortNumber s ∷ c ∷ a ∷ b ∷ [])
-lineText names nid (eq a b) = plain nid "eq" (1 ∷ a ∷ b ∷ [])
-lineText names nid (and s a b) = plain nid "and" (sortNumber s ∷ a ∷ b ∷ [])
-lineText names nid (or s a b) = plain nid "or" (sortNumber s ∷ a ∷ b ∷ [])
-lineText names nid (not s a) = plain nid "not" (sortNumber s ∷ a ∷ [])
-lineText names nid (state s m) = named nid "state" (sortNumber s) (names m)
+lineText names nid (const s imm) = plainRow nid "constd" (sortNumber s ∷ imm ∷ [])
+lineText names nid (read m a) = plainRow nid "read" (2 ∷ m ∷ a ∷ [])
+lineText names nid (write m a v) = plainRow nid "write" (3 ∷ m ∷ a ∷ v ∷ [])
+lineText names nid (bin o a b) = plainRow nid (binWord o) (sortNumber (binSort o) ∷ a ∷ b ∷ [])
+lineText names nid (uext from a) = plainRow nid "uext" (2 ∷ a ∷ (64 - width from) ∷ [])
+lineText names nid (ite s c a b) = plainRow nid "ite" (sortNumber s ∷ c ∷ a ∷ b ∷ [])
+lineText names nid (eq a b) = plainRow nid "eq" (1 ∷ a ∷ b ∷ [])
+lineText names nid (and s a b) = plainRow nid "and" (sortNumber s ∷ a ∷ b ∷ [])
+lineText names nid (or s a b) = plainRow nid "or" (sortNumber s ∷ a ∷ b ∷ [])
+lineText names nid (not s a) = plainRow nid "not" (sortNumber s ∷ a ∷ [])
+lineText names nid (state s m) = namedRow nid "state" (sortNumber s) (names m)
 lineText names nid (stateInit s a m) =
-    named nid "state" (sortNumber s) (names m) ++ plain ((nid + 1) % 2 ^ 64) "init" (sortNumber s ∷ nid ∷ a ∷ [])
-lineText names nid (next s a b) = plain nid "next" (sortNumber s ∷ a ∷ b ∷ [])
-lineText names nid (input s m) = named nid "input" (sortNumber s) (names m)
-lineText names nid (bad a m) = named nid "bad" a (names m)
+    namedRow nid "state" (sortNumber s) (names m) ++ plainRow ((nid + 1) % 2 ^ 64) "init" (sortNumber s ∷ nid ∷ a ∷ [])
+lineText names nid (next s a b) = plainRow nid "next" (sortNumber s ∷ a ∷ b ∷ [])
+lineText names nid (input s m) = namedRow nid "input" (sortNumber s) (names m)
+lineText names nid (bad a m) = namedRow nid "bad" a (names m)
 lineText names nid unknown = []
 
 -- "A missing name prints `?`"; another one is printed as the very bytes of its area

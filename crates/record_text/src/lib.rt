@@ -40,8 +40,8 @@ ghost use Rattle.btor2.specs.Op.{unknown};
 ghost use Rattle.btor2_list.specs.declared.Line.{Line};
 ghost use Rattle.btor2_list.specs.Node.{opOf};
 ghost use mathlib.Core.List.{[], _∷_, _++_};
-ghost use Rattle.node_text.specs.Words.{word};
-ghost use Rattle.node_text.specs.Row.{written};
+ghost use Rattle.node_text.specs.Words.{kindWord};
+ghost use Rattle.node_text.specs.Row.{rowText};
 ghost use Rattle.record_text.specs.OwnSort.{ownSort};
 ghost use Rattle.record_text.specs.Line.{lineText, printedName, withOperands};
 
@@ -188,7 +188,7 @@ fn put_name<'a>(
     start: u64,
     len: u64,
 ) -> usize
-    ensures { λ r. ⌜ Put (now (out .entry)) at (written nid (word k) (number ∷ []) true (printedName (now (host .entry)) (now (ours .entry)) (record { area = area; at = start; len = len }))) (now (out .exit)) r ⌝ }
+    ensures { λ r. ⌜ Put (now (out .entry)) at (rowText nid (kindWord k) (number ∷ []) true (printedName (now (host .entry)) (now (ours .entry)) (record { area = area; at = start; len = len }))) (now (out .exit)) r ⌝ }
 {
     let name = Name {
         area,
@@ -232,7 +232,7 @@ fn put_state<'a>(
     start: u64,
     len: u64,
 ) -> usize
-    ensures { λ r. ⌜ Put (now (out .entry)) at (written nid (word 19) (sort ∷ []) true (printedName (now (host .entry)) (now (ours .entry)) (record { area = area; at = start; len = len })) ++ cond (eqb imm 0) [] (written ((nid + 1) % 2 ^ 64) (word 0) (sort ∷ nid ∷ init ∷ []) false [])) (now (out .exit)) r ⌝ }
+    ensures { λ r. ⌜ Put (now (out .entry)) at (rowText nid (kindWord 19) (sort ∷ []) true (printedName (now (host .entry)) (now (ours .entry)) (record { area = area; at = start; len = len })) ++ cond (eqb imm 0) [] (rowText ((nid + 1) % 2 ^ 64) (kindWord 0) (sort ∷ nid ∷ init ∷ []) false [])) (now (out .exit)) r ⌝ }
 {
     let p = put_name(out, at, nid, 19, sort, host, ours, area, start, len);
     if imm == 0 {

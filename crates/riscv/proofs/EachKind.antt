@@ -7,17 +7,17 @@ use native.Mathlib.Omega.{arith}
 use lib.Dec.{T}
 use Rattle.bitvec.proofs.Base.{by-le}
 use Rattle.bitvec.proofs.Below.{allBelow, at, left, right}
-use Rattle.riscv.specs.Kind.{Kind, Ecall, kindAt, number}
+use Rattle.riscv.specs.Kind.{Kind, Ecall, kindAt, kindNumber}
 use Rattle.riscv.proofs.Numbered.{kind-back, kind-past}
 
-number-below : (k : Kind) → number k < 50
-number-below k = by-le 50 (number k) (λ l. absurd (late (sym (kind-past (number k) (omega (arith, l))) ∙ kind-back k) l)) (λ l. l)
+number-below : (k : Kind) → kindNumber k < 50
+number-below k = by-le 50 (kindNumber k) (λ l. absurd (late (sym (kind-past (kindNumber k) (omega (arith, l))) ∙ kind-back k) l)) (λ l. l)
   where
-    late : Ecall ≡ k → 50 ≤ number k → ⊥
-    late e l = let q : 49 ≡ number k = ap number e in omega arith
+    late : Ecall ≡ k → 50 ≤ kindNumber k → ⊥
+    late e l = let q : 49 ≡ kindNumber k = ap kindNumber e in omega arith
 
 pub by-kind : (test : Kind → Bool) → T (allBelow 50 (λ (n : ℕ). test (kindAt n))) → (k : Kind) → T (test k)
-by-kind test h k = subst (λ (j : Kind). T (test j)) (kind-back k) (at 50 (λ (n : ℕ). test (kindAt n)) h (number k) (number-below k))
+by-kind test h k = subst (λ (j : Kind). T (test j)) (kind-back k) (at 50 (λ (n : ℕ). test (kindAt n)) h (kindNumber k) (number-below k))
 
 -- imm is 0, rd is x0, rs1 is x0
 abbrev pub two : (Bool → Bool) → Bool

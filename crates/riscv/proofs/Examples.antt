@@ -5,7 +5,7 @@ use mathlib.Core.Bool.{cond}
 use lib.Dec.{eqb}
 use Rattle.bitvec.specs.Smtlib.{negative}
 use Rattle.bitvec.specs.TwosComplement.{sext, sra, signed, bitsOf, quot}
-use Rattle.bitvec.specs.Bytes.{byteOf, load, store}
+use Rattle.bitvec.specs.Bytes.{byteOf, loadBytes, storeBytes}
 use Rattle.riscv.specs.Kind.{Lui, Auipc, Lh, Sraiw, Srliw, Div, Divw, Jal}
 use Rattle.riscv.specs.Manual.{setsRd, loadAt, storeAt, manual}
 use Rattle.riscv.specs.Memory.{bytesOf, cellsWith}
@@ -23,7 +23,7 @@ auipc = refl
 
 -- from the cell 2 ^ 63 at offset 6: -32768
 lh : manual 6 0 0 0 (bytesOf (λ a. cond (eqb a 0) (2 ^ 63) 0)) Lh ≡ setsRd (2 ^ 64 - 32768)
-unfolding manual loadAt load bytesOf byteOf sext negative
+unfolding manual loadAt loadBytes bytesOf byteOf sext negative
 lh = refl
 
 -- by zero: -1, also of a negative dividend
@@ -52,5 +52,5 @@ link-wraps = refl
 
 -- two bytes at address 2 of the cell at 0
 store-two : cellsWith empty (storeAt (bytesOf empty) 2 2 0xaabb) 0 ≡ 0xaabb0000
-unfolding cellsWith storeAt load store bytesOf byteOf
+unfolding cellsWith storeAt loadBytes storeBytes bytesOf byteOf
 store-two = refl

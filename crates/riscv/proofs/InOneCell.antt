@@ -6,15 +6,15 @@ use native.Mathlib.Nat.{mod-eq-of-lt, zero-add}
 use native.Mathlib.Omega.{arith}
 use borrow.Author.Tests.{lt-ltb, le-ltb, le-leb, lt-leb, eq-eqb, eqb-true}
 use lib.Dec.{eqb}
-use Rattle.bitvec.specs.Bytes.{byteOf, load, store}
+use Rattle.bitvec.specs.Bytes.{byteOf, loadBytes, storeBytes}
 use Rattle.bitvec.proofs.Base.{by-le}
 use Rattle.bitvec.proofs.Memory.{load-whole}
 use Rattle.riscv.specs.Manual.{loadAt, storeAt}
 use Rattle.riscv.specs.Memory.{bytesOf, cellsWith}
 
 -- bytes that agree from a to a + n load the same number
-pub load-agree : (f g : ℕ → ℕ) (a d n : ℕ) → ((k : ℕ) → k < n → f (a + k) ≡ g (d + k)) → load f a n ≡ load g d n
-unfolding load
+pub load-agree : (f g : ℕ → ℕ) (a d n : ℕ) → ((k : ℕ) → k < n → f (a + k) ≡ g (d + k)) → loadBytes f a n ≡ loadBytes g d n
+unfolding loadBytes
 load-agree f g a d zero h = refl
 load-agree f g a d (suc n) h =
     ap₂ (λ (x y : ℕ). x * 256 + y)
@@ -24,17 +24,17 @@ load-agree f g a d (suc n) h =
 -- ---- a byte after a store
 
 module _ (f : ℕ → ℕ) (a n v i : ℕ) where
-  pub store-hit : a ≤ i → i < a + n → store f a n v i ≡ byteOf v (i - a)
-  unfolding store
-  store-hit h l = rw (le-leb a i h, lt-ltb i (a + n) l, store)
+  pub store-hit : a ≤ i → i < a + n → storeBytes f a n v i ≡ byteOf v (i - a)
+  unfolding storeBytes
+  store-hit h l = rw (le-leb a i h, lt-ltb i (a + n) l, storeBytes)
 
-  pub store-above : a + n ≤ i → store f a n v i ≡ f i
-  unfolding store
-  store-above l = rw (le-leb a i (omega arith), le-ltb i (a + n) l, store)
+  pub store-above : a + n ≤ i → storeBytes f a n v i ≡ f i
+  unfolding storeBytes
+  store-above l = rw (le-leb a i (omega arith), le-ltb i (a + n) l, storeBytes)
 
-  pub store-below : i < a → store f a n v i ≡ f i
-  unfolding store
-  store-below h = rw (lt-leb a i h, store)
+  pub store-below : i < a → storeBytes f a n v i ≡ f i
+  unfolding storeBytes
+  store-below h = rw (lt-leb a i h, storeBytes)
 
 -- in the circular address space, at an address i
 module _ (memory : ℕ → ℕ) (a n v i : ℕ) (hi : i < 2 ^ 64) where
@@ -67,7 +67,7 @@ module _ (cells : ℕ → ℕ) where
     abbrev base : ℕ
     base = a - a % 8
 
-    pub load-in-cell : loadAt (bytesOf cells) a n ≡ load (byteOf (cells base)) (a % 8) n
+    pub load-in-cell : loadAt (bytesOf cells) a n ≡ loadBytes (byteOf (cells base)) (a % 8) n
     unfolding loadAt
     load-in-cell =
         load-agree (λ i. bytesOf cells (i % 2 ^ 64)) (byteOf (cells base)) a (a % 8) n
@@ -77,7 +77,7 @@ module _ (cells : ℕ → ℕ) where
 
     module _ (v : ℕ) where
       -- byte k of the aligned word at x, after the store
-      byte-here : (k : ℕ) → k < 8 → storeAt (bytesOf cells) a n v (base + k) ≡ store (byteOf (cells base)) (a % 8) n v k
+      byte-here : (k : ℕ) → k < 8 → storeAt (bytesOf cells) a n v (base + k) ≡ storeBytes (byteOf (cells base)) (a % 8) n v k
       byte-here k hk =
           by-le (a % 8) k
           (λ h. by-le (a % 8 + n) k
@@ -97,15 +97,15 @@ module _ (cells : ℕ → ℕ) where
           (λ h. at-below (bytesOf cells) a n v (x + k) (omega arith) h (omega arith) ∙ byte-in x k h8 hk)
 
       -- the cell that holds the address changes in its bytes from a mod 8 on, and every other cell is as it was
-      pub store-here : cellsWith cells (storeAt (bytesOf cells) a n v) base ≡ load (store (byteOf (cells base)) (a % 8) n v) 0 8
+      pub store-here : cellsWith cells (storeAt (bytesOf cells) a n v) base ≡ loadBytes (storeBytes (byteOf (cells base)) (a % 8) n v) 0 8
       unfolding cellsWith
-      store-here = rw (eq-eqb (base % 8) 0 (omega arith)) (load-agree _ _ base 0 8 (λ k h. byte-here k h ∙ ap (store (byteOf (cells base)) (a % 8) n v) (sym (zero-add k))))
+      store-here = rw (eq-eqb (base % 8) 0 (omega arith)) (load-agree _ _ base 0 8 (λ k h. byte-here k h ∙ ap (storeBytes (byteOf (cells base)) (a % 8) n v) (sym (zero-add k))))
 
       pub store-there : ((x : ℕ) → cells x < 2 ^ 64) → (x : ℕ) → x < 2 ^ 64 → (x ≡ base → ⊥) → cellsWith cells (storeAt (bytesOf cells) a n v) x ≡ cells x
       unfolding cellsWith
       store-there hc x hx other = go (eqb (x % 8) 0) refl
         where
-          go : (t : Bool) → eqb (x % 8) 0 ≡ t → cond t (load (storeAt (bytesOf cells) a n v) x 8) (cells x) ≡ cells x
+          go : (t : Bool) → eqb (x % 8) 0 ≡ t → cond t (loadBytes (storeAt (bytesOf cells) a n v) x 8) (cells x) ≡ cells x
           go true e =
               load-agree _ _ x 0 8 (λ k h. byte-there x k hx (eqb-true _ _ e) other h ∙ ap (byteOf (cells x)) (sym (zero-add k))) ∙ load-whole (cells x) (hc x)
           go false e = refl

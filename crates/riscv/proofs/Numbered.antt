@@ -1,25 +1,26 @@
 -- A kind is what its number says. Assumes nothing.
 use Prim.Native.Nat.{ℕ, _≤_, _<_}
 use mathlib.Core.Path.{_≡_, refl, sym, ap, _∙_}
-use mathlib.Core.Bool.{Bool, not}
+use mathlib.Core.Bool.{Bool}
 use mathlib.Core.Logic.{⊎-elim}
 use native.Mathlib.Nat.{eq-or-lt-of-le}
 use native.Mathlib.Omega.{arith}
-use borrow.Author.Tests.{eq-eqb, ne-eqb}
-use lib.Dec.{T, eqb, eqb→eq}
+use borrow.Author.Tests.{ne-eqb}
+use lib.Dec.{eqb, eqb→eq}
 use lib.ListN.{List·getD-eq-default}
 use Rattle.bitvec.proofs.Base.{by-le}
-use Rattle.riscv.specs.Kind.{Kind, Lui, Auipc, Lb, Lh, Lw, Ld, Lbu, Lhu, Sb, Sh, Sw, Sd, Addi, Sltiu, Xori, Ori, Andi, Slli, Srli, Srai, Addiw, Slliw, Srliw, Sraiw, Add, Sub, Sll, Sltu, Srl, Sra, Or, And, Mul, Div, Divu, Remu, Addw, Divw, Subw, Sllw, Mulw, Beq, Bne, Blt, Bge, Bltu, Bgeu, Jal, Jalr, Ecall, kinds, kindAt, number}
-use Rattle.bitvec.proofs.Below.{allBelow, at}
+use Rattle.riscv.specs.Kind.{Kind, Lui, Auipc, Lb, Lh, Lw, Ld, Lbu, Lhu, Sb, Sh, Sw, Sd, Addi, Sltiu, Xori, Ori, Andi, Slli, Srli, Srai, Addiw, Slliw, Srliw, Sraiw, Add, Sub, Sll, Sltu, Srl, Sra, Or, And, Mul, Div, Divu, Remu, Addw, Divw, Subw, Sllw, Mulw, Beq, Bne, Blt, Bge, Bltu, Bgeu, Jal, Jalr, Ecall, kinds, kindAt, kindNumber}
+use Rattle.bitvec.proofs.Below.{at}
+use Rattle.bitvec.proofs.LastArm.{NoneFrom, past}
 
 same : ℕ → Bool
-same n = eqb (number (kindAt n)) n
+same n = eqb (kindNumber (kindAt n)) n
 
-pub number-at : (n : ℕ) → n < 50 → number (kindAt n) ≡ n
+pub number-at : (n : ℕ) → n < 50 → kindNumber (kindAt n) ≡ n
 unfolding same
-number-at n h = eqb→eq (number (kindAt n)) n (at 50 same tt n h)
+number-at n h = eqb→eq (kindNumber (kindAt n)) n (at 50 same tt n h)
 
-pub kind-back : (k : Kind) → kindAt (number k) ≡ k
+pub kind-back : (k : Kind) → kindAt (kindNumber k) ≡ k
 kind-back Lui = refl
 kind-back Auipc = refl
 kind-back Lb = refl
@@ -79,12 +80,12 @@ kind-past n h =
     (λ l. List·getD-eq-default kinds Ecall {n = n} (omega arith))
     (eq-or-lt-of-le h)
 
--- and a number that is none below 49 is that
-pub kind-else : (n : ℕ) → T (allBelow 49 (λ (i : ℕ). not (eqb n i))) → kindAt n ≡ Ecall
-kind-else n h = by-le 49 n (kind-past n) (λ l. absurd (rw (eq-eqb n n refl) at (at 49 (λ (i : ℕ). not (eqb n i)) h n l)))
+-- which is what the last arm of a match on a kind's number knows
+pub last-kind : (n : ℕ) → NoneFrom 0 49 n → kindAt n ≡ Ecall
+last-kind n none = kind-past n (past 0 49 n none (omega arith))
 
 -- so a kind but Ecall is told by its number
-pub told : (n m : ℕ) → m < 49 → eqb (number (kindAt n)) m ≡ eqb n m
+pub told : (n m : ℕ) → m < 49 → eqb (kindNumber (kindAt n)) m ≡ eqb n m
 told n m h =
     by-le 49 n
     (λ l. rw (kind-past n l) (ne-eqb 49 m (λ e. omega arith) ∙ sym (ne-eqb n m (λ e. omega arith))))

@@ -6,7 +6,7 @@ use mathlib.Core.Bool.{cond}
 use lib.Dec.{eqb, leb}
 use lib.Bits.{bitAnd, bitOr, bitXor}
 use Rattle.bitvec.specs.TwosComplement.{sext, sra, sltu, quot}
-use Rattle.bitvec.specs.Bytes.{load, store}
+use Rattle.bitvec.specs.Bytes.{loadBytes, storeBytes}
 use Rattle.riscv.specs.Kind.{Kind, Lui, Auipc, Lb, Lh, Lw, Ld, Lbu, Lhu, Sb, Sh, Sw, Sd, Addi, Sltiu, Xori, Ori, Andi, Slli, Srli, Srai, Addiw, Slliw, Srliw, Sraiw, Add, Sub, Sll, Sltu, Srl, Sra, Or, And, Mul, Div, Divu, Remu, Addw, Divw, Subw, Sllw, Mulw, Beq, Bne, Blt, Bge, Bltu, Bgeu, Jal, Jalr, Ecall}
 
 -- neither rd nor memory changes; rd takes a value; memory takes these bytes
@@ -17,10 +17,10 @@ pub data Effect : Type 0 where
 
 -- section 1.4, "Memory": the address space is circular, the byte at 2 ^ 64 - 1 being next to that at 0
 unfoldable pub loadAt : (ℕ → ℕ) → ℕ → ℕ → ℕ
-loadAt memory a n = load (λ i. memory (i % 2 ^ 64)) a n
+loadAt memory a n = loadBytes (λ i. memory (i % 2 ^ 64)) a n
 
 unfoldable pub storeAt : (ℕ → ℕ) → ℕ → ℕ → ℕ → ℕ → ℕ
-storeAt memory a n v i = store (λ j. memory (j % 2 ^ 64)) a n v (cond (leb a i) i (i + 2 ^ 64))
+storeAt memory a n v i = storeBytes (λ j. memory (j % 2 ^ 64)) a n v (cond (leb a i) i (i + 2 ^ 64))
 
 module _ (imm pc rs1 rs2 : ℕ) (memory : ℕ → ℕ) where
   -- section 2.4, LUI, and 5.2: the 20 bits with 12 zeros below, sign-extended from 32 bits

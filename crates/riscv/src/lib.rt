@@ -197,19 +197,13 @@ fn registers_out(format: Format, rd: u64, rs1: u64, rs2: u64) -> bool
 fn either_above(a: u64, b: u64) -> bool
     ensures { λ r. ⌜ r ≡ (ltb 31 a || ltb 31 b) ⌝ }
 {
-    if a > 31 {
-        return true;
-    }
-    b > 31
+    (a > 31) | (b > 31)
 }
 
 fn any_above(a: u64, b: u64, c: u64) -> bool
     ensures { λ r. ⌜ r ≡ (ltb 31 a || (ltb 31 b || ltb 31 c)) ⌝ }
 {
-    if a > 31 {
-        return true;
-    }
-    either_above(b, c)
+    (a > 31) | ((b > 31) | (c > 31))
 }
 
 // 2: the immediate is outside the range of its format.
@@ -231,19 +225,13 @@ fn immediate_out(format: Format, imm: u64) -> bool
 fn outside(imm: u64, low: u64, high: u64) -> bool
     ensures { λ r. ⌜ r ≡ not (leb imm high || leb low imm) ⌝ }
 {
-    if imm <= high {
-        return false;
-    }
-    imm < low
+    !((imm <= high) | (low <= imm))
 }
 
 fn odd_or_outside(imm: u64, low: u64, high: u64) -> bool
     ensures { λ r. ⌜ r ≡ not (even imm && (leb imm high || leb low imm)) ⌝ }
 {
-    if imm % 2 != 0 {
-        return true;
-    }
-    outside(imm, low, high)
+    !((imm % 2 == 0) & ((imm <= high) | (low <= imm)))
 }
 
 // 3: the amount of a shift by an immediate.
@@ -266,10 +254,7 @@ fn zero_srliw(kind: u64, imm: u64) -> bool
     requires { ⌜ kind < 50 ⌝ }
     ensures { λ r. ⌜ r ≡ zeroSrliw (kindAt kind) imm ⌝ }
 {
-    if kind != SRLIW {
-        return false;
-    }
-    imm == 0
+    (kind == SRLIW) & (imm == 0)
 }
 
 // 5: rd is x0, of a kind that writes rd, other than Addi, Jal and Jalr (a `d`).
@@ -289,11 +274,5 @@ fn indirect_offset(kind: u64, rs1: u64, imm: u64) -> bool
     requires { ⌜ kind < 50 ⌝ }
     ensures { λ r. ⌜ r ≡ indirectOffset (kindAt kind) rs1 imm ⌝ }
 {
-    if kind != JALR {
-        return false;
-    }
-    if rs1 == 0 {
-        return false;
-    }
-    imm != 0
+    (kind == JALR) & ((rs1 != 0) & (imm != 0))
 }

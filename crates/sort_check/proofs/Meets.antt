@@ -29,7 +29,7 @@ unfolding allRight
 right-append [] js = refl
 right-append (i ∷ is) js = ap (λ (b : Bool). i .right && b) (right-append is js) ∙ sym (and-assoc (i .right) (allRight is) (allRight js))
 
--- the rule of a line behind others, its operands being theirs
+-- the rule of a line after others, its operands being theirs
 abbrev pub rightBehind : List (Op ℕ) → Op ℕ → Bool
 rightBehind xs o = rule (mapOp (λ q. markOf (opAt xs q)) o)
 

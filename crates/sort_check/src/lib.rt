@@ -97,33 +97,21 @@ fn const_fits(s: NodeType, n: u64) -> bool
 fn write_fits(list: &[u64], i: usize, m: NodeRef, a: NodeRef, v: NodeRef) -> bool
     ensures { λ r. ⌜ r ≡ rule (mapOp (markAt (now (list .entry)) i) (O.write (m .0) (a .0) (v .0))) ⌝ }
 {
-    if is_of(list, i, NodeType::Memory, m) {
-        return are(list, i, NodeType::Word, a, NodeType::Word, v);
-    }
-    false
+    is_of(list, i, NodeType::Memory, m) & are(list, i, NodeType::Word, a, NodeType::Word, v)
 }
 
 // "Ext takes a value of its `from`, Bit or an input sort"
 fn ext_fits(list: &[u64], i: usize, from: NodeType, a: NodeRef) -> bool
     ensures { λ r. ⌜ r ≡ rule (mapOp (markAt (now (list .entry)) i) (O.uext from (a .0))) ⌝ }
 {
-    if same(from, NodeType::Word) {
-        return false;
-    }
-    if same(from, NodeType::Memory) {
-        return false;
-    }
-    is_of(list, i, from, a)
+    !(same(from, NodeType::Word) | same(from, NodeType::Memory)) & is_of(list, i, from, a)
 }
 
 // "Ite has a Bit condition and branches of its sort"
 fn ite_fits(list: &[u64], i: usize, s: NodeType, c: NodeRef, a: NodeRef, b: NodeRef) -> bool
     ensures { λ r. ⌜ r ≡ rule (mapOp (markAt (now (list .entry)) i) (O.ite s (c .0) (a .0) (b .0))) ⌝ }
 {
-    if is_of(list, i, NodeType::Bit, c) {
-        return are(list, i, s, a, s, b);
-    }
-    false
+    is_of(list, i, NodeType::Bit, c) & are(list, i, s, a, s, b)
 }
 
 // "Eq on two Bits or two Words, itself Bit"
@@ -132,29 +120,20 @@ fn eq_fits(list: &[u64], i: usize, a: NodeRef, b: NodeRef) -> bool
 {
     let x = value_at(list, i, a);
     let y = value_at(list, i, b);
-    if both(NodeType::Bit, x, NodeType::Bit, y) {
-        return true;
-    }
-    both(NodeType::Word, x, NodeType::Word, y)
+    both(NodeType::Bit, x, NodeType::Bit, y) | both(NodeType::Word, x, NodeType::Word, y)
 }
 
 // "And, Or, Not work on Bit or Word, operands and result alike"
 fn gate_fits(list: &[u64], i: usize, s: NodeType, a: NodeRef, b: NodeRef) -> bool
     ensures { λ r. ⌜ r ≡ rule (mapOp (markAt (now (list .entry)) i) (O.and s (a .0) (b .0))) ⌝ }
 {
-    if bit_or_word(s) {
-        return are(list, i, s, a, s, b);
-    }
-    false
+    bit_or_word(s) & are(list, i, s, a, s, b)
 }
 
 fn not_fits(list: &[u64], i: usize, s: NodeType, a: NodeRef) -> bool
     ensures { λ r. ⌜ r ≡ rule (mapOp (markAt (now (list .entry)) i) (O.not s (a .0))) ⌝ }
 {
-    if bit_or_word(s) {
-        return is_of(list, i, s, a);
-    }
-    false
+    bit_or_word(s) & is_of(list, i, s, a)
 }
 
 // "State's init has its sort, or Word for Memory", whatever its name
@@ -162,50 +141,32 @@ fn init_fits(list: &[u64], i: usize, s: NodeType, a: NodeRef) -> bool
     ensures { λ r. ⌜ r ≡ rule (mapOp (markAt (now (list .entry)) i) (O.stateInit s (a .0) noName)) ⌝ }
 {
     let x = value_at(list, i, a);
-    if of_sort(s, x) {
-        return true;
-    }
-    if same(s, NodeType::Memory) {
-        return of_sort(NodeType::Word, x);
-    }
-    false
+    of_sort(s, x) | (same(s, NodeType::Memory) & of_sort(NodeType::Word, x))
 }
 
 // "Next joins a State and a value of its sort"
 fn next_fits(list: &[u64], i: usize, s: NodeType, a: NodeRef, b: NodeRef) -> bool
     ensures { λ r. ⌜ r ≡ rule (mapOp (markAt (now (list .entry)) i) (O.next s (a .0) (b .0))) ⌝ }
 {
-    if state_at(list, i, a) {
-        return are(list, i, s, a, s, b);
-    }
-    false
+    state_at(list, i, a) & are(list, i, s, a, s, b)
 }
 
 fn bit_or_word(s: NodeType) -> bool
     ensures { λ r. ⌜ r ≡ bitOrWord s ⌝ }
 {
-    if same(s, NodeType::Bit) {
-        return true;
-    }
-    same(s, NodeType::Word)
+    same(s, NodeType::Bit) | same(s, NodeType::Word)
 }
 
 fn are(list: &[u64], i: usize, s: NodeType, a: NodeRef, t: NodeType, b: NodeRef) -> bool
     ensures { λ r. ⌜ r ≡ (is s (markAt (now (list .entry)) i (a .0)) && is t (markAt (now (list .entry)) i (b .0))) ⌝ }
 {
-    if is_of(list, i, s, a) {
-        return is_of(list, i, t, b);
-    }
-    false
+    is_of(list, i, s, a) & is_of(list, i, t, b)
 }
 
 fn both(s: NodeType, x: MaybeSort, t: NodeType, y: MaybeSort) -> bool
     ensures { λ r. ⌜ r ≡ (hasSort s x && hasSort t y) ⌝ }
 {
-    if of_sort(s, x) {
-        return of_sort(t, y);
-    }
-    false
+    of_sort(s, x) & of_sort(t, y)
 }
 
 // A value line before line i, of sort s.

@@ -11,8 +11,8 @@ use Rattle.btor2_list.specs.View.{view}
 use Rattle.program.specs.Prog.{_>>=_}
 use Rattle.builder.specs.Append.{appendLine}
 use Rattle.builder_ops.specs.Composed.{newNeq, newUgte, newSra, newShiftRight, checkAdditionOverflow}
-use Rattle.models.specs.Counters.{modelAddress, wordAddress, bitOffset, modelL, load}
-use Rattle.models.specs.Kinds.{constant, link, withConstant, addend, sumWithConstant, modelAddi, shiftedBack, divided, modelBranch}
+use Rattle.models.specs.Counters.{modelAddress, wordAddress, bitOffset, modelL, modelLoad}
+use Rattle.models.specs.Kinds.{constant, link, withConstant, addiResult, sumWithConstant, modelAddi, shiftedBack, divided, modelBranch}
 use Rattle.models.specs.Model.{upper, constantOf, regFlowIte, unimplemented, translate}
 use Rattle.riscv.specs.Refusal.{refusal}
 use Rattle.roles.specs.Roles.{operandsFor, flowsIn, withFlows}
@@ -27,5 +27,5 @@ use Rattle.starred.specs.Case.{room, answer, states}
 use Rattle.starred.specs.Cases.{cases, Starred}
 
 pub starred : Starred
-unfolding cases room answer states startNames concat startName namedStates startOps records startWords startIn fromOn startRoles startState loweringGiven refusalGiven roomOf needsOf rolesFit lineAt opOf carried refusal flagOut roomOut settled programOf programFrom countsAfter appendLine constantOf upper operandsFor flowsIn withFlows translate regFlowIte unimplemented _>>=_ newNeq newUgte newSra newShiftRight checkAdditionOverflow modelAddress wordAddress bitOffset modelL load constant link withConstant addend sumWithConstant modelAddi shiftedBack divided modelBranch numeral badName view walk mapOp evalOp binary values value Smt.ite bit negative bvnot bvneg bvadd bvsub bvmul bvudiv bvsdiv bvand bvshl bvlshr bvult bvcomp zeroExtend
+unfolding cases room answer states startNames concat startName namedStates startOps records startWords startIn fromOn startRoles startState loweringGiven refusalGiven roomOf needsOf rolesFit lineAt opOf carried refusal flagOut roomOut settled programOf programFrom countsAfter appendLine constantOf upper operandsFor flowsIn withFlows translate regFlowIte unimplemented _>>=_ newNeq newUgte newSra newShiftRight checkAdditionOverflow modelAddress wordAddress bitOffset modelL modelLoad constant link withConstant addiResult sumWithConstant modelAddi shiftedBack divided modelBranch numeral badName view walk mapOp evalOp binary values value Smt.ite bit negative bvnot bvneg bvadd bvsub bvmul bvudiv bvsdiv bvand bvshl bvlshr bvult bvcomp zeroExtend
 starred = refl

@@ -24,7 +24,7 @@ pub record Given : Type 0 where
 
 -- kind, rd, rs1, rs2, imm
 abbrev pub at : ℕ → Kind → ℕ → ℕ → ℕ → ℕ → Given
-at address k rd rs1 rs2 imm = record { instruction = record { kind = K.number k; rd = rd; rs1 = rs1; rs2 = rs2; imm = imm }; address = address }
+at address k rd rs1 rs2 imm = record { instruction = record { kind = K.kindNumber k; rd = rd; rs1 = rs1; rs2 = rs2; imm = imm }; address = address }
 
 -- what the listing lends: its start in words for 1,024 lines, the bytes of 1,024 names, two edges, a dispatch and 1,024 bads
 unfoldable pub room : Lent

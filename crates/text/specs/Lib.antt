@@ -1,3 +1,4 @@
+pub mod Ascii
 pub mod Numeral
 pub mod Put
 pub mod BadName

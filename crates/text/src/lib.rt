@@ -28,7 +28,7 @@ pub fn put_bytes(out: &mut [u8], at: usize, s: &[u8]) -> usize
     ensures { λ r. ⌜ Put (now (out .entry)) at (now (s .entry)) (now (out .exit)) r ⌝ }
 {
     if out.len() <= at {
-        return behind(at, s.len());
+        return place_after(at, s.len());
     }
     let mut p = at;
     let mut i = 0;
@@ -39,8 +39,8 @@ pub fn put_bytes(out: &mut [u8], at: usize, s: &[u8]) -> usize
     p
 }
 
-// The place n behind another, capped at the largest.
-fn behind(at: usize, n: usize) -> usize
+// The place n after another, capped at the largest.
+fn place_after(at: usize, n: usize) -> usize
     ensures { λ r. ⌜ r ≡ min (at + n) (2 ^ 64 - 1) ⌝ }
 {
     if LAST - at < n {
@@ -79,7 +79,7 @@ pub fn put_decimal(out: &mut [u8], at: usize, x: u64) -> usize
     put_number(out, at, x, 10, 20)
 }
 
-pub fn put_hex(out: &mut [u8], at: usize, x: u64) -> usize
+fn put_hex(out: &mut [u8], at: usize, x: u64) -> usize
     ensures { λ r. ⌜ Put (now (out .entry)) at (hexText x) (now (out .exit)) r ⌝ }
 {
     put_number(out, at, x, 16, 16)

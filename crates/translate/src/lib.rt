@@ -206,7 +206,7 @@ fn memory_flow_ite(
     }
 }
 
-// Jalr under x0: a bad line behind the others.
+// Jalr under x0: a bad line after the others.
 fn model_unimplemented(
     list: &mut [u64],
     bad: bool,

@@ -1,5 +1,6 @@
 -- Each arm names the one sort that its number is printed for; the last has ruled out all ten. Assumes nothing.
-use borrow.Author.Tests.{ne-eqb}
+use mathlib.Core.List.{[], _∷_}
+use Rattle.bitvec.proofs.LastArm.{differs}
 use Rattle.btor2.proofs.sort_of.Statement.{statement}
 use Rattle.btor2.proofs.sort_of.Tie as tie
 
@@ -34,7 +35,9 @@ returns-10 : tie.Need-returns-10
 returns-10 c = rw (c .match .keys10)
 
 returns-11 : tie.Need-returns-11
-returns-11 c = simp (ne-eqb _ _ (c .match .rest .0 .0 .0 .0 .0 .0 .0 .0 .0 .1), ne-eqb _ _ (c .match .rest .0 .0 .0 .0 .0 .0 .0 .0 .1), ne-eqb _ _ (c .match .rest .0 .0 .0 .0 .0 .0 .0 .1), ne-eqb _ _ (c .match .rest .0 .0 .0 .0 .0 .0 .1), ne-eqb _ _ (c .match .rest .0 .0 .0 .0 .0 .1), ne-eqb _ _ (c .match .rest .0 .0 .0 .0 .1), ne-eqb _ _ (c .match .rest .0 .0 .0 .1), ne-eqb _ _ (c .match .rest .0 .0 .1), ne-eqb _ _ (c .match .rest .0 .1), ne-eqb _ _ (c .match .rest .1))
+returns-11 c =
+    let no = differs (17 ∷ 16 ∷ 15 ∷ 14 ∷ 13 ∷ 12 ∷ 11 ∷ 3 ∷ 2 ∷ 1 ∷ []) (c .before .args .number) (c .match .rest) in
+    rw (no 1 tt, no 2 tt, no 3 tt, no 11 tt, no 12 tt, no 13 tt, no 14 tt, no 15 tt, no 16 tt, no 17 tt)
 
 pub sort-of-spec : {M : Type 1} → statement M
 sort-of-spec = tie.close (tie.spec returns returns-2 returns-3 returns-4 returns-5 returns-6 returns-7 returns-8 returns-9 returns-10 returns-11)

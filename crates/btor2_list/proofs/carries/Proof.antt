@@ -1,11 +1,11 @@
 -- One arm for each kind; the last has ruled out all 22. Assumes nothing.
 use lib.Dec.{eqb}
 use mathlib.Core.Path.{refl, _∙_}
-use borrow.Author.Tests.{ne-eqb}
 use Rattle.btor2.specs.Sort.{sortNumbered}
 use Rattle.btor2.specs.Op.{carried}
 use Rattle.btor2_list.specs.Node.{opOf}
 use Rattle.btor2_list.proofs.Carried.{own, carries-none, either-sort}
+use Rattle.btor2_list.proofs.NoKind.{no-kind}
 use borrow.Author.Needs.{needs}
 use Rattle.btor2_list.proofs.carries.Statement.{statement}
 use Rattle.btor2_list.proofs.carries.Tie as tie
@@ -99,8 +99,8 @@ unfolding opOf carried
 returns-22 c l ek es = rw (ek, c .match .keys22)
 
 returns-23 : tie.Need-returns-23
-unfolding opOf carried
-returns-23 c l ek es = simp (ek, ne-eqb _ _ (c .match .rest .0 .0 .0 .0 .0 .0 .0 .0 .0 .0 .0 .0 .0 .0 .0 .0 .0 .0 .0 .0 .0 .1), ne-eqb _ _ (c .match .rest .0 .0 .0 .0 .0 .0 .0 .0 .0 .0 .0 .0 .0 .0 .0 .0 .0 .0 .0 .0 .1), ne-eqb _ _ (c .match .rest .0 .0 .0 .0 .0 .0 .0 .0 .0 .0 .0 .0 .0 .0 .0 .0 .0 .0 .0 .1), ne-eqb _ _ (c .match .rest .0 .0 .0 .0 .0 .0 .0 .0 .0 .0 .0 .0 .0 .0 .0 .0 .0 .0 .1), ne-eqb _ _ (c .match .rest .0 .0 .0 .0 .0 .0 .0 .0 .0 .0 .0 .0 .0 .0 .0 .0 .0 .1), ne-eqb _ _ (c .match .rest .0 .0 .0 .0 .0 .0 .0 .0 .0 .0 .0 .0 .0 .0 .0 .0 .1), ne-eqb _ _ (c .match .rest .0 .0 .0 .0 .0 .0 .0 .0 .0 .0 .0 .0 .0 .0 .0 .1), ne-eqb _ _ (c .match .rest .0 .0 .0 .0 .0 .0 .0 .0 .0 .0 .0 .0 .0 .0 .1), ne-eqb _ _ (c .match .rest .0 .0 .0 .0 .0 .0 .0 .0 .0 .0 .0 .0 .0 .1), ne-eqb _ _ (c .match .rest .0 .0 .0 .0 .0 .0 .0 .0 .0 .0 .0 .0 .1), ne-eqb _ _ (c .match .rest .0 .0 .0 .0 .0 .0 .0 .0 .0 .0 .0 .1), ne-eqb _ _ (c .match .rest .0 .0 .0 .0 .0 .0 .0 .0 .0 .0 .1), ne-eqb _ _ (c .match .rest .0 .0 .0 .0 .0 .0 .0 .0 .0 .1), ne-eqb _ _ (c .match .rest .0 .0 .0 .0 .0 .0 .0 .0 .1), ne-eqb _ _ (c .match .rest .0 .0 .0 .0 .0 .0 .0 .1), ne-eqb _ _ (c .match .rest .0 .0 .0 .0 .0 .0 .1), ne-eqb _ _ (c .match .rest .0 .0 .0 .0 .0 .1), ne-eqb _ _ (c .match .rest .0 .0 .0 .0 .1), ne-eqb _ _ (c .match .rest .0 .0 .0 .1), ne-eqb _ _ (c .match .rest .0 .0 .1), ne-eqb _ _ (c .match .rest .0 .1), ne-eqb _ _ (c .match .rest .1))
+unfolding carried
+returns-23 c l ek es = rw (no-kind l (rw ek (c .match .rest)))
 
 pub carries-spec : {M : Type 1} → statement M
 carries-spec =

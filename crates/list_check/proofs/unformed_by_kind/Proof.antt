@@ -5,8 +5,9 @@ use mathlib.Core.Bool.{or-false}
 use denote.Ref.{now}
 use Rattle.btor2_list.specs.Record.{stride, initIn, word, lineAt}
 use Rattle.btor2_list.specs.Node.{opOf}
+use Rattle.btor2_list.proofs.NoKind.{no-kind}
 use Rattle.list_check.specs.Formed.{opUnformed}
-use Rattle.list_check.proofs.ByKind.{first, second, a-const, an-ite, an-and, an-or, a-not, a-state, a-next, an-input, no-kind}
+use Rattle.list_check.proofs.ByKind.{first, second, a-const, an-ite, an-and, an-or, a-not, a-state, a-next, an-input}
 use borrow.Author.Tests.{eq-eqb}
 use borrow.Author.Needs.{needs}
 use Rattle.list_check.proofs.unformed_by_kind.Statement.{statement}
@@ -137,10 +138,7 @@ returns-30 c = rw (c .before .before .before .match .keys22, ← c .before .befo
 
 returns-31 : tie.Need-returns-31
 unfolding lineAt opUnformed
-returns-31 c =
-    let r = c .match .rest in
-    let a = c .before .before .before .args in
-    rw (no-kind (lineAt (now (a .list)) (a .i * stride)) (r .0 .0 .0 .0 .0 .0 .0 .0 .0 .0 .0 .0 .0 .0 .0 .0 .0 .0 .0 .0 .0 .1) (r .0 .0 .0 .0 .0 .0 .0 .0 .0 .0 .0 .0 .0 .0 .0 .0 .0 .0 .0 .0 .1) (r .0 .0 .0 .0 .0 .0 .0 .0 .0 .0 .0 .0 .0 .0 .0 .0 .0 .0 .0 .1) (r .0 .0 .0 .0 .0 .0 .0 .0 .0 .0 .0 .0 .0 .0 .0 .0 .0 .0 .1) (r .0 .0 .0 .0 .0 .0 .0 .0 .0 .0 .0 .0 .0 .0 .0 .0 .0 .1) (r .0 .0 .0 .0 .0 .0 .0 .0 .0 .0 .0 .0 .0 .0 .0 .0 .1) (r .0 .0 .0 .0 .0 .0 .0 .0 .0 .0 .0 .0 .0 .0 .0 .1) (r .0 .0 .0 .0 .0 .0 .0 .0 .0 .0 .0 .0 .0 .0 .1) (r .0 .0 .0 .0 .0 .0 .0 .0 .0 .0 .0 .0 .0 .1) (r .0 .0 .0 .0 .0 .0 .0 .0 .0 .0 .0 .0 .1) (r .0 .0 .0 .0 .0 .0 .0 .0 .0 .0 .0 .1) (r .0 .0 .0 .0 .0 .0 .0 .0 .0 .0 .1) (r .0 .0 .0 .0 .0 .0 .0 .0 .0 .1) (r .0 .0 .0 .0 .0 .0 .0 .0 .1) (r .0 .0 .0 .0 .0 .0 .0 .1) (r .0 .0 .0 .0 .0 .0 .1) (r .0 .0 .0 .0 .0 .1) (r .0 .0 .0 .0 .1) (r .0 .0 .0 .1) (r .0 .0 .1) (r .0 .1) (r .1))
+returns-31 c = let a = c .before .before .before .args in rw (no-kind (lineAt (now (a .list)) (a .i * stride)) (c .match .rest))
 
 pub unformed-by-kind-spec : {M : Type 1} → statement M
 unformed-by-kind-spec =

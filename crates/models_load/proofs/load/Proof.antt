@@ -1,10 +1,10 @@
-use Rattle.models.specs.Counters.{load}
+use Rattle.models.specs.Counters.{modelLoad}
 use Rattle.builder.proofs.Gives.{on, kept, free}
 use Rattle.models_load.proofs.load.Statement.{statement}
 use Rattle.models_load.proofs.load.Tie as tie
 
 returns : tie.Need-returns
-unfolding load
+unfolding modelLoad
 returns c = search on
 
 pub load-spec : {M : Type 1} → statement M

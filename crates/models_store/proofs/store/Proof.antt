@@ -1,10 +1,10 @@
-use Rattle.models.specs.Counters.{store}
+use Rattle.models.specs.Counters.{modelStore}
 use Rattle.builder.proofs.Gives.{on, kept, free}
 use Rattle.models_store.proofs.store.Statement.{statement}
 use Rattle.models_store.proofs.store.Tie as tie
 
 returns : tie.Need-returns
-unfolding store
+unfolding modelStore
 returns c = search on
 
 pub store-spec : {M : Type 1} → statement M

@@ -1,4 +1,4 @@
--- A digit behind the word, or a number. Assumes nothing.
+-- A digit after the word, or a number. Assumes nothing.
 use Prim.Native.Nat.{_+_}
 use mathlib.Core.Path.{_≡_, refl, _∙_}
 use mathlib.Core.List.{[], _∷_, append-assoc}

@@ -1,7 +1,7 @@
 -- The pieces of the row. Assumes nothing.
 use denote.Ref.{now}
 use Rattle.text.proofs.Laws.{then, put-as}
-use Rattle.node_text.specs.Words.{word}
+use Rattle.node_text.specs.Words.{kindWord}
 use Rattle.node_text.proofs.Rows.{named-row}
 use borrow.Author.Needs.{needs}
 use Rattle.node_text.proofs.put_named.Statement.{statement}
@@ -18,7 +18,7 @@ returns c =
     let r = s .args in
     put-as
     (then h (then h (then h (s0 .put-head .ensures) (s1 .put-byte .ensures)) (s2 .put-bytes .ensures)) (s3 .put-byte2 .ensures))
-    (named-row (r .nid) (r .a) (word (r .k)) (now (r .name)))
+    (named-row (r .nid) (r .a) (kindWord (r .k)) (now (r .name)))
 
 pub put-named-spec : {M : Type 1} → statement M
 put-named-spec = tie.close (tie.spec (λ c κs. search needs) (λ c κs. search needs) (λ c κs. search needs) (λ c κs. search needs) (λ c. search needs) returns)

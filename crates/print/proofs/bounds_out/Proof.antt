@@ -13,7 +13,7 @@ returns-2 : tie.Need-returns-2
 returns-2 c =
     let e = c .before in
     let a = e .before .before .before .args in
-    c .nids-out .ensures ∙ sym (in-run (now (a .list)) (a .lines) (a .from) (a .count) (sym (e .before .run-out .ensures) ∙ e .if1 .left))
+    c .nids-too-large .ensures ∙ sym (in-run (now (a .list)) (a .lines) (a .from) (a .count) (sym (e .before .run-out .ensures) ∙ e .if1 .left))
 
 pub bounds-out-spec : {M : Type 1} → statement M
 bounds-out-spec = tie.close (tie.spec (λ c κs. search needs) returns (λ c κs. search needs) returns-2)

@@ -6,7 +6,7 @@ use denote.Ref.{now}
 use native.Mathlib.Omega.{arith}
 use borrow.Author.Tests.{le-ltb, leb-true}
 use Rattle.list_check.proofs.Formed.{by-records}
-use Rattle.print.specs.Printing.{nidsOut}
+use Rattle.print.specs.Printing.{nidsTooLarge}
 use Rattle.print.proofs.Bounds.{in-run, inside}
 use borrow.Author.Needs.{needs}
 use Rattle.print.proofs.roomy.Statement.{statement}
@@ -29,7 +29,7 @@ mul-result c =
     let i = inside (now (a .list)) (a .lines) (a .from) (a .count) (sym (e .before .run-out .ensures) ∙ e .if1 .left) in record { fits = omega arith }
 
 returns-3 : tie.Need-returns-3
-unfolding nidsOut
+unfolding nidsTooLarge
 returns-3 c h =
     let e = c .before .before in
     let a = e .before .before .before .args in

@@ -11,7 +11,7 @@ use Rattle.list_check.specs.Operand.{noValueAt}
 use Rattle.list_check.proofs.Some.{some-on}
 use Rattle.list_check.proofs.Scan.{reached, scanned}
 use Rattle.line_text.proofs.Listed.{nid-inside}
-use Rattle.print.specs.Printing.{nidOut}
+use Rattle.print.specs.Printing.{nidTooLarge}
 use Rattle.print.specs.Room.{said, rooms, Surveyed}
 use Rattle.print.proofs.Rooms.{rooms-suc, told}
 use borrow.Author.Needs.{needs}
@@ -19,7 +19,7 @@ use Rattle.print.proofs.survey.Statement.{statement}
 use Rattle.print.proofs.survey.Tie as tie
 
 abbrev Inv-loop : tie.InvT-loop
-Inv-loop list lines host ours names₀ i₀ names i = (i ≤ lines) × (some i (nidOut list lines) ≡ false) × (some i (λ p. opUnformed host ours (noValueAt list p) (said list p)) ≡ false) × (names < 2 ^ 64 - 1 → rooms list i ≤ names)
+Inv-loop list lines host ours names₀ i₀ names i = (i ≤ lines) × (some i (nidTooLarge list lines) ≡ false) × (some i (λ p. opUnformed host ours (noValueAt list p) (said list p)) ≡ false) × (names < 2 ^ 64 - 1 → rooms list i ≤ names)
 
 abbrev μ-loop : tie.MeasureT-loop
 μ-loop list lines host ours names₀ i₀ names i = lines - i
@@ -60,7 +60,7 @@ loop-again c =
     let inv = l .loop .inv in
     let on = scanned ws (l .loop .i) (a .host) (a .ours) (reached ws (l .loop .i) (a .host) (a .ours) (omega arith) (inv .2)) in
     let below : w .with-name .result < 2 ^ 64 - 1 = omega (arith, c .if2 .left) in
-    let found = told ws (l .loop .i) (a .host) (a .ours) (l .loop .names) (w .with-name .result) (rw (k .check-line .ensures) at (w .with-name .ensures below)) in (
+    let found = told ws (l .loop .i) (a .host) (a .ours) (l .loop .names) (w .with-name .result) (rw (k .check-line .ensures .0) at (w .with-name .ensures below)) in (
       omega arith,
       some-on (l .loop .i) _ (inv .1) (rw (← nid-inside ws (a .lines) (l .loop .i) (omega arith) (omega arith)) (le-ltb _ _ (e .if1 .left))),
       some-on (l .loop .i) _ (inv .2) (sym on ∙ found .0),

@@ -1,7 +1,8 @@
 -- Each of the kinds. Assumes nothing.
 use mathlib.Core.Path.{sym}
 use mathlib.Core.Bool.{true≢false}
-use borrow.Author.Tests.{ne-eqb}
+use mathlib.Core.List.{[], _∷_}
+use Rattle.bitvec.proofs.LastArm.{differs}
 use Rattle.btor2_list.specs.Node.{opOf}
 use Rattle.record_text.proofs.own_sort.Statement.{statement}
 use Rattle.record_text.proofs.own_sort.Tie as tie
@@ -43,7 +44,9 @@ unfolding opOf
 returns-9 c = (rw (c .match .keys9), λ e l ek es. rw (ek, c .match .keys9, es))
 
 returns-10 : tie.Need-returns-10
-returns-10 c = let r = c .match .rest in (rw (ne-eqb _ _ (r .0 .0 .0 .0 .0 .0 .0 .0 .1), ne-eqb _ _ (r .0 .0 .0 .0 .0 .0 .0 .1), ne-eqb _ _ (r .0 .0 .0 .0 .0 .0 .1), ne-eqb _ _ (r .0 .0 .0 .0 .0 .1), ne-eqb _ _ (r .0 .0 .0 .0 .1), ne-eqb _ _ (r .0 .0 .0 .1), ne-eqb _ _ (r .0 .0 .1), ne-eqb _ _ (r .0 .1), ne-eqb _ _ (r .1)), λ e. absurd (true≢false (sym e)))
+returns-10 c =
+    let no = differs (21 ∷ 20 ∷ 19 ∷ 18 ∷ 17 ∷ 16 ∷ 14 ∷ 13 ∷ 1 ∷ []) (c .before .args .kind) (c .match .rest) in
+    (rw (no 1 tt, no 13 tt, no 14 tt, no 16 tt, no 17 tt, no 18 tt, no 19 tt, no 20 tt, no 21 tt), λ e. absurd (true≢false (sym e)))
 
 pub own-sort-spec : {M : Type 1} → statement M
 own-sort-spec = tie.close (tie.spec returns returns-2 returns-3 returns-4 returns-5 returns-6 returns-7 returns-8 returns-9 returns-10)

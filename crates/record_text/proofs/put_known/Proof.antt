@@ -1,11 +1,11 @@
 -- Each kind's clause; past the last kind there is no text. Assumes nothing.
 use denote.Ref.{now}
 use native.Mathlib.Omega.{arith}
-use Rattle.node_text.proofs.Table.{beyond}
 use Rattle.text.proofs.Laws.{nothing, put-as}
 use Rattle.btor2_list.specs.Node.{opOf}
+use Rattle.btor2_list.proofs.NoKind.{no-kind}
 use Rattle.record_text.specs.Line.{lineText, printedName, withOperands}
-use Rattle.record_text.proofs.KnownKinds.{no-kind, number-of, state-text}
+use Rattle.record_text.proofs.KnownKinds.{number-of, state-text}
 use borrow.Author.Needs.{needs}
 use Rattle.record_text.proofs.put_known.Statement.{statement}
 use Rattle.record_text.proofs.put_known.Tie as tie
@@ -148,10 +148,8 @@ returns-22 c = let q = c .before .before in put-as (q .put-name2 .ensures) (rw (
 returns-23 : tie.Need-returns-23
 unfolding lineText
 returns-23 c =
-    let r = c .match .rest in
     let a = c .before .before .before .before .args in
-    nothing (omega arith) (rw (no-kind (withOperands (a .line) (a .a .0) (a .b .0) (a .c .0))
-    (λ h. beyond (beyond (beyond (beyond (beyond (beyond (beyond (beyond (beyond (beyond (beyond (beyond (beyond (beyond (beyond (beyond (beyond (beyond (beyond (beyond (beyond (beyond h (r .0 .0 .0 .0 .0 .0 .0 .0 .0 .0 .0 .0 .0 .0 .0 .0 .0 .0 .0 .0 .0 .1)) (r .0 .0 .0 .0 .0 .0 .0 .0 .0 .0 .0 .0 .0 .0 .0 .0 .0 .0 .0 .0 .1)) (r .0 .0 .0 .0 .0 .0 .0 .0 .0 .0 .0 .0 .0 .0 .0 .0 .0 .0 .0 .1)) (r .0 .0 .0 .0 .0 .0 .0 .0 .0 .0 .0 .0 .0 .0 .0 .0 .0 .0 .1)) (r .0 .0 .0 .0 .0 .0 .0 .0 .0 .0 .0 .0 .0 .0 .0 .0 .0 .1)) (r .0 .0 .0 .0 .0 .0 .0 .0 .0 .0 .0 .0 .0 .0 .0 .0 .1)) (r .0 .0 .0 .0 .0 .0 .0 .0 .0 .0 .0 .0 .0 .0 .0 .1)) (r .0 .0 .0 .0 .0 .0 .0 .0 .0 .0 .0 .0 .0 .0 .1)) (r .0 .0 .0 .0 .0 .0 .0 .0 .0 .0 .0 .0 .0 .1)) (r .0 .0 .0 .0 .0 .0 .0 .0 .0 .0 .0 .0 .1)) (r .0 .0 .0 .0 .0 .0 .0 .0 .0 .0 .0 .1)) (r .0 .0 .0 .0 .0 .0 .0 .0 .0 .0 .1)) (r .0 .0 .0 .0 .0 .0 .0 .0 .0 .1)) (r .0 .0 .0 .0 .0 .0 .0 .0 .1)) (r .0 .0 .0 .0 .0 .0 .0 .1)) (r .0 .0 .0 .0 .0 .0 .1)) (r .0 .0 .0 .0 .0 .1)) (r .0 .0 .0 .0 .1)) (r .0 .0 .0 .1)) (r .0 .0 .1)) (r .0 .1)) (r .1))))
+    nothing (omega arith) (rw (no-kind (withOperands (a .line) (a .a .0) (a .b .0) (a .c .0)) (c .match .rest)))
 
 pub put-known-spec : {M : Type 1} → statement M
 put-known-spec =

@@ -1,4 +1,4 @@
--- The row, and the init's behind it. Assumes nothing.
+-- The row, and the init's after it. Assumes nothing.
 use mathlib.Core.List.{append-nil}
 use borrow.Author.Tests.{eq-eqb, ne-eqb}
 use Rattle.text.proofs.Laws.{then, put-as}

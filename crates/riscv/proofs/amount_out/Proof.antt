@@ -1,7 +1,8 @@
 -- Only the shifts by an immediate are looked at. Assumes nothing.
 use mathlib.Core.Path.{sym}
 use mathlib.Core.Bool.{or-false}
-use borrow.Author.Tests.{ne-eqb}
+use mathlib.Core.List.{[], _∷_}
+use Rattle.bitvec.proofs.LastArm.{differs}
 use Rattle.riscv.proofs.Numbered.{number-at}
 use Rattle.riscv.proofs.amount_out.Statement.{statement}
 use Rattle.riscv.proofs.amount_out.Tie as tie
@@ -22,7 +23,9 @@ returns-5 : tie.Need-returns-5
 returns-5 c = rw (c .match .keys5)
 
 returns-6 : tie.Need-returns-6
-returns-6 c = simp (number-at _ (c .before .pre), ne-eqb _ _ (c .match .rest .0 .0 .0 .0 .1), ne-eqb _ _ (c .match .rest .0 .0 .0 .1), ne-eqb _ _ (c .match .rest .0 .0 .1), ne-eqb _ _ (c .match .rest .0 .1), ne-eqb _ _ (c .match .rest .1))
+returns-6 c =
+    let no = differs (23 ∷ 22 ∷ 21 ∷ 18 ∷ 17 ∷ []) (c .before .args .kind) (c .match .rest) in
+    simp (number-at _ (c .before .pre), no 17 tt, no 18 tt, no 21 tt, no 22 tt, no 23 tt)
 
 pub amount-out-spec : {M : Type 1} → statement M
 amount-out-spec = tie.close (tie.spec returns returns-2 returns-3 returns-4 returns-5 returns-6)

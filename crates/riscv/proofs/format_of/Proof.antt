@@ -2,8 +2,8 @@
 use Prim.Native.Nat.{ℕ, _<_}
 use mathlib.Core.Path.{_≡_, refl, sym, ap, _∙_}
 use mathlib.Core.Bool.{cond}
+use mathlib.Core.List.{[], _∷_}
 use borrow.Author.Needs.{needs}
-use borrow.Author.Tests.{ne-eqb}
 use lib.Dec.{eqb}
 use lib.ListN.{getD}
 use Rattle.riscv.specs.declared.Format.{Format}
@@ -11,6 +11,7 @@ use Rattle.riscv.specs.declared.Format.the-variants.{R, I, S, B, U, J, S
 use Rattle.riscv.specs.Kind.{kindAt}
 use Rattle.riscv.specs.Format.{format}
 use Rattle.bitvec.proofs.Below.{tabulate, tabulated}
+use Rattle.bitvec.proofs.LastArm.{differs}
 use Rattle.riscv.proofs.format_of.Statement.{statement}
 use Rattle.riscv.proofs.format_of.Tie as tie
 
@@ -62,7 +63,8 @@ returns-6 c = says (c .before .before .before .args .kind) 74 (c .before .before
 
 returns-7 : tie.Need-returns-7
 returns-7 c =
-    simp (ne-eqb _ _ (c .match .rest .0 .0 .0 .0 .0 .1), ne-eqb _ _ (c .match .rest .0 .0 .0 .0 .1), ne-eqb _ _ (c .match .rest .0 .0 .0 .1), ne-eqb _ _ (c .match .rest .0 .0 .1), ne-eqb _ _ (c .match .rest .0 .1), ne-eqb _ _ (c .match .rest .1)) at (says (c .before .before .before .args .kind) _ (c .before .before .before .pre) refl)
+    let no = differs (74 ∷ 85 ∷ 66 ∷ 83 ∷ 73 ∷ 82 ∷ []) _ (c .match .rest) in
+    simp (no 82 tt, no 73 tt, no 83 tt, no 66 tt, no 85 tt, no 74 tt) at (says (c .before .before .before .args .kind) _ (c .before .before .before .pre) refl)
 
 pub format-of-spec : {M : Type 1} → statement M
 format-of-spec = tie.close (tie.spec (λ c. search needs) returns returns-2 returns-3 returns-4 returns-5 returns-6 returns-7)

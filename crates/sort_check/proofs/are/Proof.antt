@@ -1,13 +1,10 @@
--- One operand, then the other. Assumes nothing.
+-- One operand and the other. Assumes nothing.
 use borrow.Author.Needs.{needs}
 use Rattle.sort_check.proofs.are.Statement.{statement}
 use Rattle.sort_check.proofs.are.Tie as tie
 
 returns : tie.Need-returns
-returns c = rw (← c .before .before .is-of .ensures, c .before .if1 .taken) (c .is-of2 .ensures)
-
-returns-2 : tie.Need-returns-2
-returns-2 c = rw (← c .before .is-of .ensures, c .if1 .left)
+returns c = rw (c .before .is-of .ensures, c .is-of2 .ensures)
 
 pub are-spec : {M : Type 1} → statement M
-are-spec = tie.close (tie.spec (λ c κs. search needs) (λ c κs. search needs) returns returns-2)
+are-spec = tie.close (tie.spec (λ c κs. search needs) (λ c κs. search needs) returns)

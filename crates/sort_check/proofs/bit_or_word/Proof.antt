@@ -4,10 +4,7 @@ use Rattle.sort_check.proofs.bit_or_word.Statement.{statement}
 use Rattle.sort_check.proofs.bit_or_word.Tie as tie
 
 returns : tie.Need-returns
-returns c = rw (← c .before .same .ensures, c .if1 .taken)
-
-returns-2 : tie.Need-returns-2
-returns-2 c = rw (← c .before .before .same .ensures, c .before .if1 .left) (c .same2 .ensures)
+returns c = rw (c .before .same .ensures, c .same2 .ensures)
 
 pub bit-or-word-spec : {M : Type 1} → statement M
-bit-or-word-spec = tie.close (tie.spec (λ c κs. search needs) returns (λ c κs. search needs) returns-2)
+bit-or-word-spec = tie.close (tie.spec (λ c κs. search needs) (λ c κs. search needs) returns)

@@ -1,4 +1,4 @@
--- The State, then both sorts. Assumes nothing.
+-- The State, and both sorts. Assumes nothing.
 use Rattle.btor2.specs.Op.{mapOp}
 use Rattle.btor2.specs.SortRule.{rule}
 use borrow.Author.Needs.{needs}
@@ -7,11 +7,7 @@ use Rattle.sort_check.proofs.next_fits.Tie as tie
 
 returns : tie.Need-returns
 unfolding mapOp rule
-returns c = rw (← c .before .before .state-at .ensures, c .before .if1 .taken) (c .are .ensures)
-
-returns-2 : tie.Need-returns-2
-unfolding mapOp rule
-returns-2 c = rw (← c .before .state-at .ensures, c .if1 .left)
+returns c = rw (c .before .state-at .ensures, c .are .ensures)
 
 pub next-fits-spec : {M : Type 1} → statement M
-next-fits-spec = tie.close (tie.spec (λ c κs. search needs) (λ c κs. search needs) returns returns-2)
+next-fits-spec = tie.close (tie.spec (λ c κs. search needs) (λ c κs. search needs) returns)

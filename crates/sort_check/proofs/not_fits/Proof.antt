@@ -1,4 +1,4 @@
--- The sort, then the operand. Assumes nothing.
+-- The sort, and the operand. Assumes nothing.
 use Rattle.btor2.specs.Op.{mapOp}
 use Rattle.btor2.specs.SortRule.{rule}
 use borrow.Author.Needs.{needs}
@@ -7,11 +7,7 @@ use Rattle.sort_check.proofs.not_fits.Tie as tie
 
 returns : tie.Need-returns
 unfolding mapOp rule
-returns c = rw (← c .before .before .bit-or-word .ensures, c .before .if1 .taken) (c .is-of .ensures)
-
-returns-2 : tie.Need-returns-2
-unfolding mapOp rule
-returns-2 c = rw (← c .before .bit-or-word .ensures, c .if1 .left)
+returns c = rw (c .before .bit-or-word .ensures, c .is-of .ensures)
 
 pub not-fits-spec : {M : Type 1} → statement M
-not-fits-spec = tie.close (tie.spec (λ c κs. search needs) (λ c κs. search needs) returns returns-2)
+not-fits-spec = tie.close (tie.spec (λ c κs. search needs) (λ c κs. search needs) returns)

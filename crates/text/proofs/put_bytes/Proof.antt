@@ -36,7 +36,7 @@ returns : tie.Need-returns Inv-loop μ-loop
 returns c =
     let t = c .before in
     let a = t .before .before .before .args in
-    record { list = sym (sets-out (a .s .now) (a .out .now) (a .at) (t .if1 .taken)); next = c .behind .ensures }
+    record { list = sym (sets-out (a .s .now) (a .out .now) (a .at) (t .if1 .taken)); next = c .place-after .ensures }
 
 returns-2 : tie.Need-returns-2 Inv-loop μ-loop
 returns-2 c = put-as (c .before .loop .inv .1) (take-all _ _ (c .loop-test .left))

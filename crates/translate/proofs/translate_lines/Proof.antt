@@ -1,4 +1,4 @@
--- The model's lines, the flow's, and Jalr's bad line, one behind the other. Assumes nothing.
+-- The model's lines, the flow's, and Jalr's bad line, one after the other. Assumes nothing.
 use Rattle.models.specs.Model.{translate}
 use Rattle.builder.proofs.Gives.{on, kept, free}
 use Rattle.translate.proofs.translate_lines.Statement.{statement}

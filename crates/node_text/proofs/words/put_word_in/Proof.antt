@@ -2,9 +2,10 @@
 use mathlib.Core.Path.{sym, ap}
 use mathlib.Core.List.{List}
 use native.Mathlib.Omega.{arith}
+use Rattle.bitvec.proofs.LastArm.{past}
 use Rattle.text.proofs.Laws.{put-as}
 use Rattle.node_text.specs.Words.{spaced}
-use Rattle.node_text.proofs.Table.{past, beyond}
+use Rattle.node_text.proofs.Table.{no-word}
 use borrow.Author.Needs.{needs}
 use Rattle.node_text.proofs.words.put_word_in.Statement.{statement}
 use Rattle.node_text.proofs.words.put_word_in.Tie as tie
@@ -81,12 +82,9 @@ returns-23 c = rw (c .before .before .before .before .match .keys23) (c .before 
 returns-24 : tie.Need-returns-24
 returns-24 c =
     let m = c .before .before .before .before in
-    let r = m .match .rest in
-    let e = c .before .before .none .ensures in (
-      put-as (e .0) (ap (λ (w : List _). spaced w) (sym (past (m .before .before .args .k)
-          (beyond (beyond (beyond (beyond (beyond (beyond (beyond (beyond (beyond (beyond (beyond (beyond (beyond (beyond (beyond (beyond (beyond (beyond (beyond (beyond (beyond (beyond (beyond (omega arith) (r .0 .0 .0 .0 .0 .0 .0 .0 .0 .0 .0 .0 .0 .0 .0 .0 .0 .0 .0 .0 .0 .0 .1)) (r .0 .0 .0 .0 .0 .0 .0 .0 .0 .0 .0 .0 .0 .0 .0 .0 .0 .0 .0 .0 .0 .1)) (r .0 .0 .0 .0 .0 .0 .0 .0 .0 .0 .0 .0 .0 .0 .0 .0 .0 .0 .0 .0 .1)) (r .0 .0 .0 .0 .0 .0 .0 .0 .0 .0 .0 .0 .0 .0 .0 .0 .0 .0 .0 .1)) (r .0 .0 .0 .0 .0 .0 .0 .0 .0 .0 .0 .0 .0 .0 .0 .0 .0 .0 .1)) (r .0 .0 .0 .0 .0 .0 .0 .0 .0 .0 .0 .0 .0 .0 .0 .0 .0 .1)) (r .0 .0 .0 .0 .0 .0 .0 .0 .0 .0 .0 .0 .0 .0 .0 .0 .1)) (r .0 .0 .0 .0 .0 .0 .0 .0 .0 .0 .0 .0 .0 .0 .0 .1)) (r .0 .0 .0 .0 .0 .0 .0 .0 .0 .0 .0 .0 .0 .0 .1)) (r .0 .0 .0 .0 .0 .0 .0 .0 .0 .0 .0 .0 .0 .1)) (r .0 .0 .0 .0 .0 .0 .0 .0 .0 .0 .0 .0 .1)) (r .0 .0 .0 .0 .0 .0 .0 .0 .0 .0 .0 .1)) (r .0 .0 .0 .0 .0 .0 .0 .0 .0 .0 .1)) (r .0 .0 .0 .0 .0 .0 .0 .0 .0 .1)) (r .0 .0 .0 .0 .0 .0 .0 .0 .1)) (r .0 .0 .0 .0 .0 .0 .0 .1)) (r .0 .0 .0 .0 .0 .0 .1)) (r .0 .0 .0 .0 .0 .1)) (r .0 .0 .0 .0 .1)) (r .0 .0 .0 .1)) (r .0 .0 .1)) (r .0 .1)) (r .1))))),
-      e .1,
-    )
+    let k = m .before .before .args .k in
+    let e = c .before .before .none .ensures in
+    (put-as (e .0) (ap (λ (w : List _). spaced w) (sym (no-word k (past 0 23 k (m .match .rest) (omega arith))))), e .1)
 
 pub put-word-in-spec : {M : Type 1} → statement M
 put-word-in-spec =
