@@ -11,7 +11,7 @@ use lib.Dec.{eqb, leb}
 use lib.ListN.{length, take, set, replicate, length-append, length-take, length-set, length-replicate}
 use lib.Seq.{take-nil, take-all, take-append-le, take-suc-set, set-out}
 use Rattle.bitvec.proofs.Base.{by-le}
-use Rattle.listing_input.specs.Gather.{newline}
+use Rattle.listing_input.specs.Gather.{newlineByte}
 use Rattle.listing_line.specs.Line.{_>>_, parseLine}
 use Rattle.listing_start.specs.Start.{concat, startState}
 use Rattle.listing_step.specs.Step.{Step, step}
@@ -102,11 +102,11 @@ unfolding takeBytes takeByte linesFrom lineEnded byteHeld steps
 rest-is [] p line number h n k = end-is p line number k
 rest-is (b ∷ bs) p line number h n k =
     let next = lineEnded p .progress in
-    go (eqb b newline) refl
+    go (eqb b newlineByte) refl
     (rest-is bs next [] (number + 1) (omega arith) (omega arith) (next-line p line number (omega arith) k))
     (rest-is bs (byteHeld b p) (line ++ (b ∷ [])) number (omega (arith, length-append line (b ∷ []))) (omega arith) (byte-more b p line number (omega arith) k))
   where
-    go : (t : Bool) → eqb b newline ≡ t
+    go : (t : Bool) → eqb b newlineByte ≡ t
         → writtenFrom (lineEnded p .progress) bs ≡ steps (number + 1) (linesFrom [] bs) (lineEnded p .progress .lent) (lineEnded p .progress .reading .state) .text
         → writtenFrom (byteHeld b p) bs ≡ steps number (linesFrom (line ++ (b ∷ [])) bs) (byteHeld b p .lent) (byteHeld b p .reading .state) .text
         → andThen (andThen (cond t (lineEnded p) (told (byteHeld b p) [])) (takeBytes bs)) inputEnded .text

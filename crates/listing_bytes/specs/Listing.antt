@@ -3,7 +3,7 @@ use Prim.Native.Nat.{ℕ, _+_}
 use mathlib.Core.Bool.{cond}
 use mathlib.Core.List.{List, [], _∷_, _++_}
 use lib.Dec.{eqb}
-use Rattle.listing_input.specs.Gather.{newline}
+use Rattle.listing_input.specs.Gather.{newlineByte}
 use Rattle.listing_start.specs.Start.{startState}
 use Rattle.listing_step.specs.Step.{Step, step}
 use Rattle.lowering.specs.Lowering.{Lent}
@@ -20,7 +20,7 @@ lastLine (b ∷ bs) = (b ∷ bs) ∷ []
 -- the lines of what is left of an input, where these bytes of a line have been read
 unfoldable pub linesFrom : List ℕ → List ℕ → List (List ℕ)
 linesFrom line [] = lastLine line
-linesFrom line (b ∷ bs) = cond (eqb b newline) (line ∷ linesFrom [] bs) (linesFrom (line ++ (b ∷ [])) bs)
+linesFrom line (b ∷ bs) = cond (eqb b newlineByte) (line ∷ linesFrom [] bs) (linesFrom (line ++ (b ∷ [])) bs)
 
 abbrev pub inputLines : List ℕ → List (List ℕ)
 inputLines input = linesFrom [] input

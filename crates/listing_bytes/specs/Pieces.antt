@@ -4,7 +4,7 @@ use mathlib.Core.Bool.{cond}
 use mathlib.Core.List.{List, [], _∷_, _++_}
 use lib.Dec.{eqb}
 use lib.ListN.{take, drop, set, replicate}
-use Rattle.listing_input.specs.Gather.{newline, lineNext}
+use Rattle.listing_input.specs.Gather.{newlineByte, lineNext}
 use Rattle.listing_start.specs.Start.{startState}
 use Rattle.listing_step.specs.Step.{step}
 use Rattle.lowering.specs.Lowering.{Lent}
@@ -50,7 +50,7 @@ byteHeld b p =
     progress (p .lent) (set (p .line) (r .held) b) (reading (r .state) (r .number) (min (r .held + 1) (2 ^ 64 - 1)))
 
 unfoldable pub takeByte : ℕ → Progress → Told
-takeByte b p = cond (eqb b newline) (lineEnded p) (told (byteHeld b p) [])
+takeByte b p = cond (eqb b newlineByte) (lineEnded p) (told (byteHeld b p) [])
 
 unfoldable pub takeBytes : List ℕ → Progress → Told
 takeBytes [] p = told p []

@@ -7,12 +7,12 @@ use lib.ListN.{length, take, drop}
 use Rattle.listing_line.specs.Text.{before}
 
 -- the byte that ends a line
-abbrev pub newline : ℕ
-newline = 10
+abbrev pub newlineByte : ℕ
+newlineByte = 10
 
 -- of the bytes of a piece from a place on: how many stand before the first newline, and which
 abbrev pub lineLength : List ℕ → ℕ → ℕ
-lineLength piece from = before newline (drop from piece)
+lineLength piece from = before newlineByte (drop from piece)
 
 unfoldable pub lineBytes : List ℕ → ℕ → List ℕ
 lineBytes piece from = take (lineLength piece from) (drop from piece)

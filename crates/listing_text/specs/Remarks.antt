@@ -7,11 +7,8 @@ use lib.Dec.{eqb, ltb}
 use lib.ListN.{length, getD}
 use Rattle.btor2_list.specs.Node.{Node}
 use Rattle.line_text.specs.Line.{nidAt}
-use Rattle.text.specs.Ascii.{ascii}
+use Rattle.text.specs.Ascii.{ascii, newline}
 use Rattle.text.specs.Numeral.{decimalText}
-
-abbrev pub newlineText : List ℕ
-newlineText = 10 ∷ []
 
 -- "kind regular, branch or syscall"
 abbrev pub originWord : ℕ → String
@@ -25,15 +22,15 @@ conditionText ns condition = cond (eqb condition (2 ^ 64 - 1)) (ascii "-") (deci
 unfoldable pub edgeText : List Node → ℕ → ℕ → ℕ → ℕ → List ℕ
 edgeText ns to from origin condition =
     ascii "; in " ++ decimalText to ++ ascii " from " ++ decimalText from ++ ascii " " ++ ascii (originWord origin) ++ ascii " "
-    ++ conditionText ns condition ++ newlineText
+    ++ conditionText ns condition ++ newline
 
 -- "`; dyn REGISTER FROM`"
 unfoldable pub dispatchText : ℕ → ℕ → List ℕ
-dispatchText register from = ascii "; dyn " ++ decimalText register ++ ascii " " ++ decimalText from ++ newlineText
+dispatchText register from = ascii "; dyn " ++ decimalText register ++ ascii " " ++ decimalText from ++ newline
 
 -- "`; refused LINE NUMBER`, lines counted from 1"
 unfoldable pub refusedText : ℕ → ℕ → List ℕ
-refusedText line number = ascii "; refused " ++ decimalText line ++ ascii " " ++ decimalText number ++ newlineText
+refusedText line number = ascii "; refused " ++ decimalText line ++ ascii " " ++ decimalText number ++ newline
 
 -- ---- of lent lists
 

@@ -19,7 +19,7 @@ use Rattle.lowering.specs.Lowering.{Lent, Answer, roomIn, readsIn, programOf, s
 use Rattle.lowering.specs.Words.{stateWords, rolesIn, stateIn, withState, given, givenBy}
 use Rattle.lowering.proofs.Refused.{refused-kept}
 use Rattle.lowering.proofs.Words.{state-kept}
-use Rattle.lowering_calls.specs.Apart.{Told, acceptedApart, refusedApart, callApart, stateOf, rolesAfter, joined}
+use Rattle.lowering_calls.specs.Apart.{GivenApart, acceptedApart, refusedApart, callApart, stateOf, rolesAfter, joined}
 use Rattle.lowering_calls.specs.Known.{knownWords}
 
 module _ (fits : Bool) (l : Lent) (roles : List NodeRef) (t : Tally) (c : Counts) (i : Instruction) (pc : ℕ) (flag : NodeRef) where
@@ -30,7 +30,7 @@ module _ (fits : Bool) (l : Lent) (roles : List NodeRef) (t : Tally) (c : Counts
       n : ℕ
       n = refusalGiven fits (l .list) (roomIn l) t c i pc (flag .0)
 
-      p : Told
+      p : GivenApart
       p = acceptedApart l t c i pc (exec append (at (l .list) t) (programFrom (readsIn roles flag i) (c .names) i pc))
 
       go : (b : Bool) → eqb n 0 ≡ b
@@ -44,7 +44,7 @@ unfolding stateIn
 parted ws = refl
 
 -- over words: what was read of them, and what the call gave
-module _ (fits : Bool) (l : Lent) (ws : List ℕ) (i : Instruction) (pc : ℕ) (flag : NodeRef) (t : Tally) (c : Counts) (e : Reads) (p : Told) (enough : stateWords ≤ length ws) (t-is : t ≡ stateIn ws .tally) (c-is : c ≡ stateIn ws .counts)
+module _ (fits : Bool) (l : Lent) (ws : List ℕ) (i : Instruction) (pc : ℕ) (flag : NodeRef) (t : Tally) (c : Counts) (e : Reads) (p : GivenApart) (enough : stateWords ≤ length ws) (t-is : t ≡ stateIn ws .tally) (c-is : c ≡ stateIn ws .counts)
     (e-is : e ≡ readsIn (rolesIn ws) flag i) (gave : p ≡ callApart fits l t c e i pc flag) where
   whole : joined (rolesIn ws) (i .rd) p ≡ loweringGiven fits l (stateIn ws) i pc flag
   whole =

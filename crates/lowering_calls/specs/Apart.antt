@@ -23,7 +23,7 @@ use Rattle.lowering.specs.Lowering.{Lent, lent, Answer, roomIn, namesAfter, dis
 use Rattle.lowering_calls.specs.declared.apart.Apart.{Apart}
 
 -- what the call gives, with the lent lists
-pub record Told : Type 0 where
+pub record GivenApart : Type 0 where
   pub refusal : ℕ
   pub tally : Tally
   pub counts : Counts
@@ -31,8 +31,8 @@ pub record Told : Type 0 where
   pub outcome : P.Outcome ℕ
   pub lent : Lent
 
-abbrev pub told : Apart → Lent → Told
-told p l = record {
+abbrev pub givenApart : Apart → Lent → GivenApart
+givenApart p l = record {
   refusal = p .refusal;
   tally = p .tally;
   counts = p .counts;
@@ -41,7 +41,7 @@ told p l = record {
   lent = l;
 }
 
-unfoldable pub acceptedApart : Lent → Tally → Counts → Instruction → ℕ → Run Store (P.Modeled ℕ) → Told
+unfoldable pub acceptedApart : Lent → Tally → Counts → Instruction → ℕ → Run Store (P.Modeled ℕ) → GivenApart
 acceptedApart l t c i pc r =
     let k = class (kindAt (i .kind)) in
     let d = eqb (i .rd) 0 in
@@ -59,10 +59,10 @@ acceptedApart l t c i pc r =
           (badsAfter (l .bads) (c .bads) k s d (t .lines));
     }
 
-abbrev pub refusedApart : ℕ → Lent → Tally → Counts → Reads → Told
+abbrev pub refusedApart : ℕ → Lent → Tally → Counts → Reads → GivenApart
 refusedApart n l t c e = record { refusal = n; tally = t; counts = c; flows = flowsOf (e .flows); outcome = P.nothing; lent = l }
 
-unfoldable pub callApart : Bool → Lent → Tally → Counts → Reads → Instruction → ℕ → NodeRef → Told
+unfoldable pub callApart : Bool → Lent → Tally → Counts → Reads → Instruction → ℕ → NodeRef → GivenApart
 callApart fits l t c e i pc flag =
     let n = refusalGiven fits (l .list) (roomIn l) t c i pc (flag .0) in
     cond (eqb n 0) (acceptedApart l t c i pc (exec append (at (l .list) t) (programFrom e (c .names) i pc))) (refusedApart n l t c e)
@@ -71,10 +71,10 @@ callApart fits l t c e i pc flag =
 abbrev pub stateOf : Tally → Counts → List NodeRef → State
 stateOf t c roles = record { tally = t; counts = c; roles = roles }
 
-abbrev pub rolesAfter : List NodeRef → ℕ → Told → List NodeRef
+abbrev pub rolesAfter : List NodeRef → ℕ → GivenApart → List NodeRef
 rolesAfter roles rd p = withOutcome (withFlows roles (p .flows)) rd (p .outcome)
 
-abbrev pub joined : List NodeRef → ℕ → Told → Answer
+abbrev pub joined : List NodeRef → ℕ → GivenApart → Answer
 joined roles rd p = record {
   lowered = record { refusal = p .refusal; state = stateOf (p .tally) (p .counts) (cond (eqb (p .refusal) 0) (rolesAfter roles rd p) roles) };
   lent = p .lent;

@@ -22,7 +22,7 @@ ghost use Rattle.lowering_refusals.specs.Refusal.{mostLines};
 ghost use Rattle.lowering_lines.specs.Lines.{programFrom};
 ghost use Rattle.lowering.specs.Lowering.{lent, linkLines, namesAfter, dispatchesAfter, badsAfter, countsAfter};
 ghost use Rattle.lowering_calls.specs.Bounds.{Added, Ready};
-ghost use Rattle.lowering_calls.specs.Apart.{told, acceptedApart, callApart};
+ghost use Rattle.lowering_calls.specs.Apart.{givenApart, acceptedApart, callApart};
 
 // What a call gives apart from the roles. Where it is refused the flows are those that were read.
 pub(crate) struct Apart {
@@ -47,7 +47,7 @@ pub(crate) fn lower_apart(
     flag: NodeRef,
     fits: bool,
 ) -> Apart
-    ensures { λ r. ⌜ told r (lent (now (list .exit)) (now (names .exit)) (now (edges .exit)) (now (dispatches .exit)) (now (bads .exit))) ≡ callApart fits (lent (now (list .entry)) (now (names .entry)) (now (edges .entry)) (now (dispatches .entry)) (now (bads .entry))) t c e i address flag ⌝ }
+    ensures { λ r. ⌜ givenApart r (lent (now (list .exit)) (now (names .exit)) (now (edges .exit)) (now (dispatches .exit)) (now (bads .exit))) ≡ callApart fits (lent (now (list .entry)) (now (names .entry)) (now (edges .entry)) (now (dispatches .entry)) (now (bads .entry))) t c e i address flag ⌝ }
 {
     let class = class_of(i.kind);
     let needs = needs_of(i.kind, class, i.imm == 0, i.rd == 0, i.rs1 == 0, address);
@@ -101,7 +101,7 @@ fn accept(
     address: u64,
 ) -> Apart
     requires { ⌜ Ready t c class needs i address ⌝ }
-    ensures { λ r. ⌜ told r (lent (now (list .exit)) (now (names .exit)) (now (edges .exit)) (now (dispatches .exit)) (now (bads .exit))) ≡ acceptedApart (lent (now (list .entry)) (now (names .entry)) (now (edges .entry)) (now (dispatches .entry)) (now (bads .entry))) t c i address (exec append (at (now (list .entry)) t) (programFrom e (c .names) i address)) ⌝ }
+    ensures { λ r. ⌜ givenApart r (lent (now (list .exit)) (now (names .exit)) (now (edges .exit)) (now (dispatches .exit)) (now (bads .exit))) ≡ acceptedApart (lent (now (list .entry)) (now (names .entry)) (now (edges .entry)) (now (dispatches .entry)) (now (bads .entry))) t c i address (exec append (at (now (list .entry)) t) (programFrom e (c .names) i address)) ⌝ }
 {
     let m = lower_lines(list, t, c.names, e, i, address);
     let outcome = m.outcome;

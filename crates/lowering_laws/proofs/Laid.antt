@@ -18,7 +18,7 @@ use Rattle.btor2_list.proofs.Fitting.{areaFits, line-fits}
 use Rattle.program.specs.Prog.{Prog, done, line, Run, ran, exec}
 use Rattle.builder.specs.declared.Tally.{Tally}
 use Rattle.builder.specs.Append.{Store, at, appendLine, append}
-use Rattle.lowering_laws.specs.Lines.{linesOf, answerOf, placeAfter, numbered}
+use Rattle.lowering_laws.specs.Lines.{linesOf, resultOf, placeAfter, numbered}
 use Rattle.lowering_laws.proofs.Growth.{fitting}
 
 -- the lent words hold m more lines, and their identifiers fit the record
@@ -28,7 +28,7 @@ pub record Room (ws : List ℕ) (t : Tally) (m : ℕ) : Type 0 where
 
 -- what a run of the program p from ws and t has done, m being how many lines p has from the k-th on after n others
 pub record Laid {X : Type 0} (n k m : ℕ) (ws : List ℕ) (t : Tally) (p : Prog ℕ X) (r : Run Store X) : Type 0 where
-  pub value : r .value ≡ answerOf (placeAfter n) k p
+  pub value : r .value ≡ resultOf (placeAfter n) k p
   pub nodes : view (r .state .words) (r .state .tally .lines) ≡ view ws (t .lines) ++ numbered (t .nid) (linesOf (placeAfter n) k p)
   pub lines : r .state .tally .lines ≡ t .lines + m
   pub nids : r .state .tally .nid ≡ t .nid + m
@@ -61,7 +61,7 @@ room-next ws t o m r = record {
 
 pub laid : {X : Type 0} (p : Prog ℕ X) (n k : ℕ) (ws : List ℕ) (t : Tally) → t .lines ≡ n + k → Room ws t (length (linesOf (placeAfter n) k p)) → fitting (linesOf (placeAfter n) k p) ≡ true
     → Laid n k (length (linesOf (placeAfter n) k p)) ws t p (exec append (at ws t) p)
-unfolding linesOf answerOf numbered
+unfolding linesOf resultOf numbered
 laid (done x) n k ws t e r fit = record {
   value = refl;
   nodes = sym (append-nil (view ws (t .lines)));

@@ -10,9 +10,9 @@ unfoldable pub linesOf : {A X : Type 0} → (ℕ → A) → ℕ → Prog A X →
 linesOf at k (done x) = []
 linesOf at k (line o f) = o ∷ linesOf at (k + 1) (f (at k))
 
-unfoldable pub answerOf : {A X : Type 0} → (ℕ → A) → ℕ → Prog A X → X
-answerOf at k (done x) = x
-answerOf at k (line o f) = answerOf at (k + 1) (f (at k))
+unfoldable pub resultOf : {A X : Type 0} → (ℕ → A) → ℕ → Prog A X → X
+resultOf at k (done x) = x
+resultOf at k (line o f) = resultOf at (k + 1) (f (at k))
 
 -- the places of lines after n others
 abbrev pub placeAfter : ℕ → ℕ → ℕ

@@ -4,7 +4,7 @@ use denote.Ref.{now}
 use borrow.Author.Needs.{needs}
 use Rattle.lowering.specs.Lowering.{lent}
 use Rattle.lowering.specs.Words.{given}
-use Rattle.lowering_calls.specs.Apart.{told}
+use Rattle.lowering_calls.specs.Apart.{givenApart}
 use Rattle.lowering_calls.proofs.Joins.{not-written, written}
 use Rattle.lowering_calls.proofs.lower_known.Statement.{statement}
 use Rattle.lowering_calls.proofs.lower_known.Tie as tie
@@ -19,7 +19,7 @@ returns c =
     let a = start .args in
     let there = lent (call .lower-apart .last .0) (call .lower-apart .last .1 .0) (call .lower-apart .last .1 .1 .0) (call .lower-apart .last .1 .1 .1 .0) (call .lower-apart .last .1 .1 .1 .1 .0) in
     not-written (a .fits) (lent (now (a .list)) (now (a .names)) (now (a .edges)) (now (a .dispatches)) (now (a .bads))) (now (a .state)) (a .i) (a .address) (a .flag)
-    (tally .tally-in .result) (counts .counts-in .result) (reads .reads-in .result) (told (call .lower-apart .result) there) (start .pre) (tally .tally-in .ensures) (counts .counts-in .ensures) (reads .reads-in .ensures)
+    (tally .tally-in .result) (counts .counts-in .result) (reads .reads-in .result) (givenApart (call .lower-apart .result) there) (start .pre) (tally .tally-in .ensures) (counts .counts-in .ensures) (reads .reads-in .ensures)
     (call .lower-apart .ensures) (c .if1 .taken)
 
 put-apart-requires : tie.Need-put-apart-requires
@@ -38,7 +38,7 @@ returns-2 c =
     let there = lent (call .lower-apart .last .0) (call .lower-apart .last .1 .0) (call .lower-apart .last .1 .1 .0) (call .lower-apart .last .1 .1 .1 .0) (call .lower-apart .last .1 .1 .1 .1 .0) in
     ap (given 0 there) (put .put-apart .ensures)
     ∙ written (a .fits) (lent (now (a .list)) (now (a .names)) (now (a .edges)) (now (a .dispatches)) (now (a .bads))) (now (a .state)) (a .i) (a .address) (a .flag)
-    (tally .tally-in .result) (counts .counts-in .result) (reads .reads-in .result) (told (call .lower-apart .result) there) (start .pre) (tally .tally-in .ensures) (counts .counts-in .ensures) (reads .reads-in .ensures)
+    (tally .tally-in .result) (counts .counts-in .result) (reads .reads-in .result) (givenApart (call .lower-apart .result) there) (start .pre) (tally .tally-in .ensures) (counts .counts-in .ensures) (reads .reads-in .ensures)
     (call .lower-apart .ensures) (accepted .if1 .left)
 
 pub lower-known-spec : {M : Type 1} → statement M
