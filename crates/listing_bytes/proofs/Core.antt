@@ -17,7 +17,7 @@ use Rattle.btor2_list.specs.View.{view}
 use Rattle.builder.specs.declared.Tally.{Tally}
 use Rattle.instruction_class.specs.declared.Class.{Class}
 use Rattle.instruction_class.specs.declared.Class.the-variants.{Plain, Access, Addition, Branch, Jump, Indirect, Call}
-use Rattle.instruction_class.specs.Class.{class, plainCount}
+use Rattle.instruction_class.specs.Class.{class}
 use Rattle.models.specs.Places.{Operands, Flows}
 use Rattle.riscv.specs.declared.Instruction.{Instruction}
 use Rattle.riscv.specs.Kind.{Kind, Ecall, kindAt, number}
