@@ -1,18 +1,17 @@
 -- Bytes taken one after the other: two pieces are one, and a line is gathered at once. Assumes nothing.
-use Prim.Native.Nat.{ℕ, zero, suc, _+_, _-_, _^_, _≤_, _<_, min}
+use Prim.Native.Nat.{ℕ, suc, _+_, _-_, _^_, _≤_, _<_, min}
 use native.Mathlib.Nat.{min-eq-left}
 use native.Mathlib.Omega.{arith}
 use mathlib.Core.Path.{_≡_, refl, sym, ap, ap₂, _∙_}
 use mathlib.Core.Bool.{Bool, true, false, cond}
 use mathlib.Core.List.{List, [], _∷_, _++_, append-assoc, append-nil}
 use lib.Dec.{eqb}
-use lib.ListN.{length, take, drop, length-set, length-drop, drop-of-length-le}
-use lib.Seq.{sets, take-all, take-add, take-nil}
+use lib.ListN.{length, take, drop, length-set, length-drop}
+use lib.Seq.{sets, take-all, take-add}
 use borrow.Author.Tests.{eqb-true, ltb-true, ltb-false}
 use Rattle.bitvec.proofs.Base.{by-le}
 use Rattle.listing_input.specs.Gather.{lineBytes, lineEnds, lineNext}
 use Rattle.listing_line.specs.Text.{before}
-use Rattle.listing_line.proofs.Steps.{before-le}
 use Rattle.lowering.specs.Lowering.{Lent}
 use Rattle.lowering_refusals.specs.declared.State.{State}
 use Rattle.text.specs.Put.{Put}

@@ -1,30 +1,28 @@
 -- What every state of the listing keeps, and that the lines alone decide about refusal 8. Assumes nothing.
-use Prim.Native.Nat.{ℕ, _+_, _*_, _/_, _≤_}
-use mathlib.Core.Path.{_≡_, refl, ap, _∙_}
-use mathlib.Core.List.{List, [], _∷_, _++_}
+use Prim.Native.Nat.{ℕ, _+_, _*_, _≤_}
+use mathlib.Core.Path.{_≡_, refl, _∙_}
+use mathlib.Core.List.{List, [], _∷_}
 use native.Mathlib.Omega.{arith}
 use borrow.Author.Tests.{lt-ltb, le-ltb}
 use lib.Dec.{ltb}
 use lib.ListN.{length, replicate, drop, length-replicate, length-append, length-drop}
 use Rattle.bitvec.proofs.Base.{by-le}
-use Rattle.btor2.specs.declared.NodeRef.{NodeRef}
 use Rattle.btor2_list.specs.Record.{stride}
 use Rattle.listing_line.specs.declared.Parsed.{Parsed}
 use Rattle.listing_line.specs.declared.Parsed.the-variants.{Instruction as Instr, Malformed}
 use Rattle.listing_line.specs.Line.{parseLine}
 use Rattle.listing_start.specs.Start.{startNames, concat, startName, namedStates, startOps, records, startWords, startIn, startState}
-use Rattle.listing_step.specs.Step.{Step, emptied, parsedStep, step}
+use Rattle.listing_step.specs.Step.{emptied, parsedStep, step}
 use Rattle.riscv.specs.declared.Instruction.{Instruction}
 use Rattle.lowering_refusals.specs.declared.State.{State}
-use Rattle.lowering_refusals.specs.Refusal.{roomOf, roomOut}
-use Rattle.lowering.specs.Lowering.{Lent, Answer, countsAfter, roomIn, refused, lowering}
-use Rattle.lowering_refusals.specs.Refusal.{needs}
+use Rattle.lowering_refusals.specs.Refusal.{needs, roomOf, roomOut}
+use Rattle.lowering.specs.Lowering.{Lent, Answer, countsAfter, roomIn}
 use Rattle.edges.specs.Edges.{edgeStride}
 use Rattle.edges.specs.Records.{dispatchStride}
 use Rattle.listing_bytes.specs.Storage.{listingLines, longestName, mostEdges, mostDispatches, startLent}
 use Rattle.listing_bytes.specs.Listing.{steps, reached}
 use Rattle.listing_bytes.specs.Laws.{LinesDecide}
-use Rattle.listing_bytes.proofs.Core.{Small, small, no-line-free, all-free, Grown, OneCall, stays, grows, one-call}
+use Rattle.listing_bytes.proofs.Core.{small, no-line-free, all-free, OneCall, stays, grows, one-call}
 
 -- ---- what every state keeps
 

@@ -1,8 +1,8 @@
 -- The output of a line of input has room. Assumes nothing.
-use Prim.Native.Nat.{ℕ, zero, suc, _+_, _-_, _*_, _/_, _≤_, _<_, min}
-use mathlib.Core.Path.{_≡_, refl, sym, ap, subst, _∙_}
+use Prim.Native.Nat.{ℕ, zero, suc, _+_, _-_, _*_, _/_, _≤_, min}
+use mathlib.Core.Path.{_≡_, refl, sym, ap, _∙_}
 use mathlib.Core.Bool.{Bool, true, false, cond, _&&_, _||_, true≢false}
-use mathlib.Core.List.{List, [], _∷_, _++_}
+use mathlib.Core.List.{List, [], _∷_}
 use native.Mathlib.Nat.{min-eq-left}
 use native.Mathlib.Omega.{arith}
 use borrow.Author.Tests.{leb-true, ne-eqb, eq-eqb}
@@ -13,14 +13,13 @@ use Rattle.btor2.specs.declared.Name.{Name}
 use Rattle.btor2.specs.Sort.{sortNumber, width}
 use Rattle.btor2.specs.Op.{Bin, add, sub, mul, udiv, sdiv, urem, sll, srl, ult, Op, const, read, write, bin, uext, ite, eq, and, or, not, state, stateInit, next, input, bad, unknown, mapOp, binSort}
 use Rattle.btor2_list.specs.Record.{stride}
-use Rattle.btor2_list.specs.Node.{Node, node}
+use Rattle.btor2_list.specs.Node.{Node}
 use Rattle.btor2_list.specs.View.{view}
 use Rattle.btor2_list.proofs.View.{view-length}
-use Rattle.line_text.specs.Line.{nidAt, nodes, nodeText, nodesText, runText}
+use Rattle.line_text.specs.Line.{nidAt, nodes, nodesText, runText}
 use Rattle.node_text.specs.Words.{ascii}
 use Rattle.node_text.specs.Row.{nameText, numbersText, written}
 use Rattle.record_text.specs.Line.{binWord, lineText, printedName}
-use Rattle.text.specs.Numeral.{decimalText}
 use Rattle.text.proofs.Laws.{numeral-length, put-is}
 use Rattle.listing_line.specs.declared.Parsed.{Parsed}
 use Rattle.listing_line.specs.declared.Parsed.the-variants.{Instruction as Instr, Malformed}
@@ -30,9 +29,8 @@ use Rattle.listing_text.specs.Remarks.{originWord, conditionText, edgeText, dis
 use Rattle.listing_step.specs.Step.{emptied, appendedText, answerText, parsedStep, step}
 use Rattle.riscv.specs.declared.Instruction.{Instruction}
 use Rattle.lowering_refusals.specs.declared.State.{State}
-use Rattle.lowering.specs.Lowering.{Lent, Answer, countsAfter, lowering}
+use Rattle.lowering.specs.Lowering.{Lent, Answer, countsAfter}
 use Rattle.lowering_laws.specs.Lines.{numbered}
-use Rattle.lowering_refusals.specs.Refusal.{needs}
 use Rattle.listing_bytes.specs.Storage.{longestName, outRoom}
 use Rattle.listing_bytes.specs.Laws.{TextFits, TextWritten}
 use Rattle.listing_bytes.proofs.Core.{small, oneRow, oneRowEach, Grown, OneCall, stays, grows, one-call}

@@ -1,23 +1,23 @@
 -- What is read in pieces is the listing of the whole. Assumes nothing.
-use Prim.Native.Nat.{ℕ, zero, suc, _+_, _-_, _%_, _^_, _≤_, _<_, min}
+use Prim.Native.Nat.{ℕ, _+_, _-_, _^_, _≤_, _<_}
 use native.Mathlib.Nat.{mod-eq-of-lt}
 use native.Mathlib.Numerals.{add-one}
 use native.Mathlib.Omega.{arith}
-use mathlib.Core.Path.{_≡_, refl, sym, ap, ap₂, _∙_}
+use mathlib.Core.Path.{_≡_, refl, sym, ap, _∙_}
 use mathlib.Core.Bool.{Bool, true, false, cond}
 use mathlib.Core.List.{List, [], _∷_, _++_, append-assoc, append-nil}
-use borrow.Author.Tests.{ne-eqb, le-leb, lt-leb}
-use lib.Dec.{eqb, leb}
-use lib.ListN.{length, take, set, replicate, length-append, length-take, length-set, length-replicate}
+use borrow.Author.Tests.{ne-eqb, lt-leb}
+use lib.Dec.{eqb}
+use lib.ListN.{length, take, set, length-append, length-take, length-set}
 use lib.Seq.{take-nil, take-all, take-append-le, take-suc-set, set-out}
 use Rattle.bitvec.proofs.Base.{by-le}
 use Rattle.listing_input.specs.Gather.{newlineByte}
-use Rattle.listing_line.specs.Line.{_>>_, parseLine}
-use Rattle.listing_start.specs.Start.{concat, startState}
+use Rattle.listing_line.specs.Line.{parseLine}
+use Rattle.listing_start.specs.Start.{concat}
 use Rattle.listing_step.specs.Step.{Step, step}
 use Rattle.lowering.specs.Lowering.{Lent}
 use Rattle.lowering_refusals.specs.declared.State.{State}
-use Rattle.listing_bytes.specs.Storage.{startLent, lineRoom}
+use Rattle.listing_bytes.specs.Storage.{lineRoom}
 use Rattle.listing_bytes.specs.Listing.{lastLine, linesFrom, steps, reached, listing}
 use Rattle.listing_bytes.specs.Pieces.{Progress, progress, reading, Told, told, andThen, lineEnded, byteHeld, takeByte, takeBytes, takePieces, inputEnded, start}
 use Rattle.listing_bytes.specs.Laws.{AnyPieces}

@@ -39,5 +39,6 @@ steps number (line ∷ lines) l st =
 unfoldable pub reached : List (List ℕ) → Step
 reached lines = steps 1 lines startLent startState
 
+-- what is written for an input
 abbrev pub listing : List ℕ → List ℕ
 listing input = reached (inputLines input) .text

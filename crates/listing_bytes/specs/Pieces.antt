@@ -12,7 +12,7 @@ use Rattle.lowering_refusals.specs.declared.State.{State}
 use Rattle.listing_bytes.specs.declared.Reading.{Reading}
 use Rattle.listing_bytes.specs.Storage.{startLent, lineRoom}
 
--- what passes on: what is lent, the bytes that are kept of the line that is being read among it, and the reading
+-- what passes on: what is lent for the lowering, the bytes lent for the line that is being read, and how far the reading is
 pub record Progress : Type 0 where
   pub lent : Lent
   pub line : List ℕ
@@ -32,7 +32,7 @@ pub record Told : Type 0 where
 abbrev pub told : Progress → List ℕ → Told
 told p text = record { progress = p; text = text }
 
--- and then more
+-- and then more, whose text follows
 abbrev pub andThen : Told → (Progress → Told) → Told
 andThen t more = let u = more (t .progress) in told (u .progress) (t .text ++ u .text)
 
@@ -49,9 +49,11 @@ byteHeld b p =
     let r = p .reading in
     progress (p .lent) (set (p .line) (r .held) b) (reading (r .state) (r .number) (min (r .held + 1) (2 ^ 64 - 1)))
 
+-- a newline ends a line, any other byte is of it
 unfoldable pub takeByte : ℕ → Progress → Told
 takeByte b p = cond (eqb b newlineByte) (lineEnded p) (told (byteHeld b p) [])
 
+-- one byte after the other, and one piece after the other
 unfoldable pub takeBytes : List ℕ → Progress → Told
 takeBytes [] p = told p []
 takeBytes (b ∷ bs) p = andThen (takeByte b p) (takeBytes bs)

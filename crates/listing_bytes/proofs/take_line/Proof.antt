@@ -1,13 +1,13 @@
 -- What was gathered is held, and ends where a newline was found. Assumes nothing.
 use Prim.Native.Nat.{_^_, _<_}
-use mathlib.Core.Path.{_≡_, refl, sym, ap, _∙_}
+use mathlib.Core.Path.{refl, sym, ap, _∙_}
 use native.Mathlib.Omega.{arith}
 use lib.ListN.{length}
 use denote.Ref.{now}
 use Rattle.lowering.specs.Lowering.{lent}
 use borrow.Author.Needs.{needs}
 use Rattle.text.proofs.Laws.{put-as}
-use Rattle.listing_bytes.specs.Pieces.{Progress, progress, Told, lineEnded}
+use Rattle.listing_bytes.specs.Pieces.{progress, Told, lineEnded}
 use Rattle.listing_bytes.proofs.Bytes.{held-is, taken-ended, taken-more}
 use Rattle.listing_bytes.proofs.take_line.Statement.{statement}
 use Rattle.listing_bytes.proofs.take_line.Tie as tie

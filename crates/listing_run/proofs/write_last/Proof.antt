@@ -1,7 +1,5 @@
 -- The last line's output has room. Assumes nothing.
-use Prim.Native.Nat.{_≤_}
 use mathlib.Core.Path.{sym}
-use lib.ListN.{length}
 use lib.Seq.{length-take-le}
 use borrow.Author.Needs.{needs}
 use Rattle.listing_bytes.proofs.Bytes.{put-within, end-fits}
