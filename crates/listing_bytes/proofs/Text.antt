@@ -17,8 +17,8 @@ use Rattle.btor2_list.specs.Node.{Node}
 use Rattle.btor2_list.specs.View.{view}
 use Rattle.btor2_list.proofs.View.{view-length}
 use Rattle.line_text.specs.Line.{nidAt, nodes, nodesText, runText}
-use Rattle.node_text.specs.Words.{ascii}
-use Rattle.node_text.specs.Row.{nameText, numbersText, written}
+use Rattle.text.specs.Ascii.{ascii}
+use Rattle.node_text.specs.Row.{nameText, numbersText, rowText}
 use Rattle.record_text.specs.Line.{binWord, lineText, printedName}
 use Rattle.text.proofs.Laws.{numeral-length, put-is}
 use Rattle.listing_line.specs.declared.Parsed.{Parsed}
@@ -45,9 +45,9 @@ numbers-most : (xs : List ℕ) → length (numbersText xs) ≤ 21 * length xs
 numbers-most [] = omega arith
 numbers-most (x ∷ xs) = simp length-append (omega (arith, numeral-length 10 20 x, numbers-most xs))
 
-row-most : (nid : ℕ) (word numbers : List ℕ) (named : Bool) (name : List ℕ) → length (written nid word numbers named name)
+row-most : (nid : ℕ) (word numbers : List ℕ) (named : Bool) (name : List ℕ) → length (rowText nid word numbers named name)
     ≤ 22 + length word + 21 * length numbers + length (nameText named name)
-unfolding written
+unfolding rowText
 row-most nid word numbers named name = simp length-append (omega (arith, numeral-length 10 20 nid, numbers-most numbers))
 
 bin-word : (o : Bin) → length (ascii (binWord o)) ≤ 4
