@@ -1,6 +1,4 @@
 // A call apart from the roles: by what the instruction reads of them, what it gives to be set.
-use crate::refusals::needs_of;
-use crate::refusals::refuse;
 use btor2::NodeRef;
 use builder::Tally;
 use instruction_class::Class;
@@ -10,6 +8,10 @@ use lowering_lines::Reads;
 use lowering_lines::lower_lines;
 use lowering_refusals::Counts;
 use lowering_refusals::Room;
+use lowering_refusals::MOST_NID;
+use lowering_refusals::counts_out;
+use lowering_refusals::needs_of;
+use lowering_refusals::refuse_record;
 use lowering_refusals::room_of;
 use models::Flows;
 use models::Outcome;
@@ -18,7 +20,7 @@ ghost use mathlib.Core.Path.{_≡_};
 ghost use Prim.Native.Nat.{_+_, _≤_};
 ghost use Rattle.builder.specs.Append.{at, append};
 ghost use Rattle.program.specs.Prog.{exec};
-ghost use Rattle.lowering_refusals.specs.Refusal.{mostLines};
+ghost use Rattle.lowering_refusals.specs.Refusal.{mostLines, refusalGiven};
 ghost use Rattle.lowering_lines.specs.Lines.{programFrom};
 ghost use Rattle.lowering.specs.Lowering.{lent, linkLines, namesAfter, dispatchesAfter, badsAfter, countsAfter};
 ghost use Rattle.lowering_calls.specs.Bounds.{Added, Ready};
@@ -49,8 +51,6 @@ pub(crate) fn lower_apart(
 ) -> Apart
     ensures { λ r. ⌜ givenApart r (lent (now (list .exit)) (now (names .exit)) (now (edges .exit)) (now (dispatches .exit)) (now (bads .exit))) ≡ callApart fits (lent (now (list .entry)) (now (names .entry)) (now (edges .entry)) (now (dispatches .entry)) (now (bads .entry))) t c e i address flag ⌝ }
 {
-    let class = class_of(i.kind);
-    let needs = needs_of(i.kind, class, i.imm == 0, i.rd == 0, i.rs1 == 0, address);
     let room = room_of(
         list.len(),
         names.len(),
@@ -58,7 +58,7 @@ pub(crate) fn lower_apart(
         dispatches.len(),
         bads.len(),
     );
-    let refusal = refuse(list, room, t, c, needs, i, address, flag, fits);
+    let refusal = refuse(list, room, t, c, i, address, flag, fits);
     if refusal != 0 {
         let flows = e.flows;
         return Apart {
@@ -69,20 +69,29 @@ pub(crate) fn lower_apart(
             outcome: Outcome::Nothing,
         };
     }
-    accept(
-        list,
-        names,
-        edges,
-        dispatches,
-        bads,
-        t,
-        c,
-        e,
-        class,
-        needs,
-        i,
-        address,
-    )
+    accept(list, names, edges, dispatches, bads, t, c, e, i, address)
+}
+
+// The number of the first refusal that applies, or 0, by the answer of the test of the roles.
+fn refuse(
+    list: &[u64],
+    room: Room,
+    t: Tally,
+    c: Counts,
+    i: Instruction,
+    address: u64,
+    flag: NodeRef,
+    fits: bool,
+) -> u64
+    ensures { λ r. ⌜ r ≡ refusalGiven fits (now (list .entry)) room t c i address (flag .0) ⌝ }
+{
+    if counts_out(MOST_NID, room, t, c) {
+        return 9;
+    }
+    if !fits {
+        return 13;
+    }
+    refuse_record(list, room, t, c, i, address, flag)
 }
 
 // What an accepted call does.
@@ -95,14 +104,14 @@ fn accept(
     t: Tally,
     c: Counts,
     e: Reads,
-    class: Class,
-    needs: Room,
     i: Instruction,
     address: u64,
 ) -> Apart
-    requires { ⌜ Ready t c class needs i address ⌝ }
+    requires { ⌜ Ready t c i address ⌝ }
     ensures { λ r. ⌜ givenApart r (lent (now (list .exit)) (now (names .exit)) (now (edges .exit)) (now (dispatches .exit)) (now (bads .exit))) ≡ acceptedApart (lent (now (list .entry)) (now (names .entry)) (now (edges .entry)) (now (dispatches .entry)) (now (bads .entry))) t c i address (exec append (at (now (list .entry)) t) (programFrom e (c .names) i address)) ⌝ }
 {
+    let class = class_of(i.kind);
+    let needs = needs_of(i.kind, i.imm == 0, i.rd == 0, i.rs1 == 0, address);
     let m = lower_lines(list, t, c.names, e, i, address);
     let outcome = m.outcome;
     edges::go_to_instructions(edges, c.edges, class, address, i.imm, outcome);

@@ -1,7 +1,6 @@
 // The calls: one instruction over the state's words or over a state, and many in one. Each tests the roles itself; many test them once, since an
 // accepted call's roles fit again (crates/roles_kept).
 mod apart;
-mod refusals;
 mod words;
 
 use apart::lower_apart;

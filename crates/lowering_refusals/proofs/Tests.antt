@@ -2,14 +2,12 @@
 use Prim.Native.Nat.{ℕ}
 use mathlib.Core.Bool.{Bool, not}
 use mathlib.Core.List.{List, [], _∷_}
-use lib.Dec.{eqb}
 use Rattle.builder.specs.declared.Tally.{Tally}
 use Rattle.riscv.specs.declared.Instruction.{Instruction}
-use Rattle.riscv.specs.Refusal.{refusal}
 use Rattle.riscv.proofs.First.{Tests}
 use Rattle.lowering_refusals.specs.declared.Counts.{Counts}
 use Rattle.lowering_refusals.specs.declared.Room.{Room}
-use Rattle.lowering_refusals.specs.Refusal.{needs, roomOut, flagOut}
+use Rattle.lowering_refusals.specs.Refusal.{needs, roomOut, flagOut, testsOfRecord}
 
 module _ (ws : List ℕ) (room : Room) (t : Tally) (c : Counts) (i : Instruction) (pc flag : ℕ) where
   abbrev pub from8 : Tests
@@ -19,7 +17,7 @@ module _ (ws : List ℕ) (room : Room) (t : Tally) (c : Counts) (i : Instruction
   from7 = (flagOut ws (t .lines) i flag, 7) ∷ from8
 
   abbrev pub fromRecord : Tests
-  fromRecord = (not (eqb (refusal i) 0), refusal i) ∷ from7
+  fromRecord = testsOfRecord ws room t c i pc flag
 
   abbrev pub from13 : Bool → Tests
   from13 fits = (not fits, 13) ∷ fromRecord

@@ -73,16 +73,15 @@ unfoldable pub flagOut : List ℕ → ℕ → Instruction → ℕ → Bool
 flagOut ws lines i flag =
     needsFlag (kindAt (i .kind)) (eqb (i .rd) 0) (eqb (i .rs1) 0) && not (eqb (valueSort (lookAt ws lines flag)) (sortNumber Bit))
 
--- the number of the first refusal that applies, or 0; the record's own are 1 to 6. `fits` is the answer of the test of the roles, 13.
+-- the tests of the record and of what is lent for it, whose numbers come after 9 and 13; the record's own are 1 to 6
+abbrev pub testsOfRecord : List ℕ → Room → Tally → Counts → Instruction → ℕ → ℕ → List (Bool × ℕ)
+testsOfRecord ws room t c i pc flag =
+    (not (eqb (refusal i) 0), refusal i) ∷ (flagOut ws (t .lines) i flag, 7) ∷ (roomOut room t c (needs i pc), 8) ∷ []
+
+-- the number of the first refusal that applies, or 0. `fits` is the answer of the test of the roles, 13.
 unfoldable pub refusalGiven : Bool → List ℕ → Room → Tally → Counts → Instruction → ℕ → ℕ → ℕ
 refusalGiven fits ws room t c i pc flag =
-    first
-    ((countsOut mostNid room t c, 9)
-    ∷ (not fits, 13)
-    ∷ (not (eqb (refusal i) 0), refusal i)
-    ∷ (flagOut ws (t .lines) i flag, 7)
-    ∷ (roomOut room t c (needs i pc), 8)
-    ∷ [])
+    first ((countsOut mostNid room t c, 9) ∷ (not fits, 13) ∷ testsOfRecord ws room t c i pc flag)
 
 -- 13: "a role is outside the list, not a value line, or of the wrong sort"
 abbrev pub refusalOf : List ℕ → Room → State → Instruction → ℕ → ℕ → ℕ

@@ -2,12 +2,13 @@
 use Prim.Native.Nat.{ℕ, _<_}
 use mathlib.Core.Path.{_≡_, refl, sym, ap, _∙_}
 use mathlib.Core.Bool.{cond}
+use mathlib.Core.List.{[], _∷_}
 use borrow.Author.Needs.{needs}
-use borrow.Author.Tests.{ne-eqb}
 use lib.Dec.{eqb}
 use lib.ListN.{getD}
 use Rattle.riscv.specs.Kind.{kindAt}
 use Rattle.bitvec.proofs.Below.{tabulate, tabulated}
+use Rattle.bitvec.proofs.LastArm.{differs}
 use Rattle.instruction_class.specs.declared.Class.{Class}
 use Rattle.instruction_class.specs.declared.Class.the-variants.{Plain, Access, Addition, Branch, Jump, Indirect, Call}
 use Rattle.instruction_class.specs.Class.{class}
@@ -62,7 +63,8 @@ returns-6 c = says (c .before .before .before .args .kind) 114 (c .before .befor
 
 returns-7 : tie.Need-returns-7
 returns-7 c =
-    simp (ne-eqb _ _ (c .match .rest .0 .0 .0 .0 .0 .1), ne-eqb _ _ (c .match .rest .0 .0 .0 .0 .1), ne-eqb _ _ (c .match .rest .0 .0 .0 .1), ne-eqb _ _ (c .match .rest .0 .0 .1), ne-eqb _ _ (c .match .rest .0 .1), ne-eqb _ _ (c .match .rest .1)) at (says (c .before .before .before .args .kind) _ (c .before .before .before .pre) refl)
+    let other = differs (114 ∷ 106 ∷ 98 ∷ 97 ∷ 109 ∷ 112 ∷ []) _ (c .match .rest) in
+    simp (other 112 tt, other 109 tt, other 97 tt, other 98 tt, other 106 tt, other 114 tt) at (says (c .before .before .before .args .kind) _ (c .before .before .before .pre) refl)
 
 pub class-at-spec : {M : Type 1} → statement M
 class-at-spec = tie.close (tie.spec (λ c. search needs) returns returns-2 returns-3 returns-4 returns-5 returns-6 returns-7)

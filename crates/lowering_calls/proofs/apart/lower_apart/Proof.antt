@@ -9,9 +9,6 @@ use Rattle.lowering_calls.proofs.Ready.{ready}
 use Rattle.lowering_calls.proofs.apart.lower_apart.Statement.{statement}
 use Rattle.lowering_calls.proofs.apart.lower_apart.Tie as tie
 
-refuse-requires : tie.Need-refuse-requires
-refuse-requires c κs = c .before .before .needs-of .ensures
-
 returns : tie.Need-returns
 unfolding callApart
 returns c =
@@ -24,12 +21,10 @@ accept-requires c κs =
     let e = c .before .before .before .before .before in
     let r = e .before in
     let room = r .before .before in
-    let needed = room .before in
-    let classed = needed .before .before .before .before in
-    let start = classed .before .before .before .before .before .before in
+    let start = room .before .before .before .before .before .before in
     let a = start .args in
     let good = start .good .1 in
-    ready _ (now (a .list)) (room .room-of .result) (a .t) (a .c) (a .i) (a .address) _ (classed .class-of .result) (needed .needs-of .result) (classed .class-of .ensures) (needed .needs-of .ensures .0) (sym (r .refuse .ensures) ∙ e .if1 .left)
+    ready _ (now (a .list)) (room .room-of .result) (a .t) (a .c) (a .i) (a .address) _ (sym (r .refuse .ensures) ∙ e .if1 .left)
     (length (now (a .list))) (length (now (a .names))) (length (now (a .edges))) (length (now (a .dispatches))) (length (now (a .bads)))
     (room .room-of .ensures) (good .0 .0) (good .1 .0 .0) (good .1 .1 .0 .0) (good .1 .1 .1 .0 .0)
 
@@ -45,4 +40,4 @@ returns-2 c =
 pub lower-apart-spec : {M : Type 1} → statement M
 lower-apart-spec =
     tie.close
-    (tie.spec (λ c κs. search needs) (λ c κs. c .before .before .before .class-of .ensures) (λ c κs. search needs) refuse-requires (λ c. search needs) returns accept-requires (λ c. search needs) (λ c. search needs) (λ c. search needs) (λ c. search needs) (λ c. search needs) returns-2)
+    (tie.spec (λ c κs. search needs) (λ c κs. search needs) (λ c. search needs) returns accept-requires (λ c. search needs) (λ c. search needs) (λ c. search needs) (λ c. search needs) (λ c. search needs) returns-2)

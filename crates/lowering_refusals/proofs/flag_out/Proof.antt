@@ -1,9 +1,9 @@
 -- A flag is looked at where it is needed. Assumes nothing.
 use mathlib.Core.Path.{sym, _∙_}
 use borrow.Author.Needs.{needs}
 use Rattle.lowering_refusals.specs.Refusal.{flagOut}
-use Rattle.lowering_calls.proofs.refusals.flag_out.Statement.{statement}
-use Rattle.lowering_calls.proofs.refusals.flag_out.Tie as tie
+use Rattle.lowering_refusals.proofs.flag_out.Statement.{statement}
+use Rattle.lowering_refusals.proofs.flag_out.Tie as tie
 
 returns : tie.Need-returns
 unfolding flagOut
