@@ -1,5 +1,6 @@
 // Lowering RV64 instructions to BTOR2 lines, for a host in C. `rt staticlib host` writes target/staticlib/libhost.a, which defines these
-// functions; it calls memcpy and nothing else. What each gives is proved equal to a definition of crates/host/specs/Host.antt.
+// functions; it calls memcpy and nothing else. What each gives is proved equal to a definition: crates/lowering/specs (Words,
+// All) and crates/host/specs.
 //
 // All storage is the host's: a function takes a pointer and a length in elements, keeps neither, and allocates nothing. What is in use stands
 // first; the elements after it are spare room, and an accepted call writes there and to STATE only.

@@ -35,6 +35,7 @@ pub(crate) struct Apart {
     pub outcome: Outcome,
 }
 
+// The refusals first, then what an accepted call does.
 pub(crate) fn lower_apart(
     list: &mut [u64],
     names: &mut [u8],
