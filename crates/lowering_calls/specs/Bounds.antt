@@ -1,5 +1,6 @@
 -- Bounds that private functions ask for: the counts after a call fit.
 use Prim.Native.Nat.{ℕ, _+_, _≤_, _<_, _^_}
+use mathlib.Core.Path.{_≡_}
 use Rattle.builder.specs.declared.Tally.{Tally}
 use Rattle.riscv.specs.declared.Instruction.{Instruction}
 use Rattle.lowering_refusals.specs.declared.Counts.{Counts}
@@ -12,7 +13,8 @@ pub record Added (c : Counts) (n : Room) : Type 0 where
   pub dispatches : c .dispatches + n .dispatches < 2 ^ 64
   pub bads : c .bads + n .bads < 2 ^ 64
 
--- a call that was accepted has room
-pub record Ready (t : Tally) (c : Counts) (i : Instruction) (pc : ℕ) : Type 0 where
+-- a call that was accepted has room for what it needs
+pub record Ready (t : Tally) (c : Counts) (needed : Room) (i : Instruction) (pc : ℕ) : Type 0 where
   pub lines : t .lines ≤ mostLines
-  pub added : Added c (needs i pc)
+  pub added : Added c needed
+  pub is : needed ≡ needs i pc

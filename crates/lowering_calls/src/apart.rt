@@ -10,17 +10,19 @@ use lowering_refusals::Counts;
 use lowering_refusals::MOST_NID;
 use lowering_refusals::Room;
 use lowering_refusals::counts_out;
-use lowering_refusals::needs_of;
-use lowering_refusals::refuse_record;
 use lowering_refusals::room_of;
+use lowering_refusals::weigh;
 use models::Flows;
 use models::Outcome;
 use riscv::Instruction;
 ghost use mathlib.Core.Path.{_≡_};
-ghost use Prim.Native.Nat.{_+_, _≤_};
+ghost use mathlib.Core.Bool.{Bool, not};
+ghost use mathlib.Core.List.{List, _∷_};
+ghost use Rattle.riscv.specs.Refusal.{first};
+ghost use Prim.Native.Nat.{ℕ, _+_, _≤_};
 ghost use Rattle.builder.specs.Append.{at, append};
 ghost use Rattle.program.specs.Prog.{exec};
-ghost use Rattle.lowering_refusals.specs.Refusal.{mostLines, refusalGiven};
+ghost use Rattle.lowering_refusals.specs.Refusal.{mostLines, mostNid, countsOut};
 ghost use Rattle.lowering_lines.specs.Lines.{programFrom};
 ghost use Rattle.lowering.specs.Lowering.{lent, linkLines, namesAfter, dispatchesAfter, badsAfter, countsAfter};
 ghost use Rattle.lowering_calls.specs.Bounds.{Added, Ready};
@@ -59,7 +61,8 @@ pub(crate) fn lower_apart(
         dispatches.len(),
         bads.len(),
     );
-    let refusal = refuse(list, room, t, c, i, address, flag, fits);
+    let weighed = weigh(list, room, t, c, i, address, flag);
+    let refusal = refuse(room, t, c, fits, weighed.refusal);
     if refusal != 0 {
         let flows = e.flows;
         return Apart {
@@ -70,21 +73,25 @@ pub(crate) fn lower_apart(
             outcome: Outcome::Nothing,
         };
     }
-    accept(list, names, edges, dispatches, bads, t, c, e, i, address)
+    let needs = weighed.needs;
+    accept(
+        list,
+        names,
+        edges,
+        dispatches,
+        bads,
+        t,
+        c,
+        e,
+        needs,
+        i,
+        address,
+    )
 }
 
-// The number of the first refusal that applies, or 0, by the answer of the test of the roles.
-fn refuse(
-    list: &[u64],
-    room: Room,
-    t: Tally,
-    c: Counts,
-    i: Instruction,
-    address: u64,
-    flag: NodeRef,
-    fits: bool,
-) -> u64
-    ensures { λ r. ⌜ r ≡ refusalGiven fits (now (list .entry)) room t c i address (flag .0) ⌝ }
+// 9, then 13 by the answer of the test of the roles, then the number of the record's own tests.
+fn refuse(room: Room, t: Tally, c: Counts, fits: bool, number: u64) -> u64
+    ensures { λ r. ⌜ ((ts : List (Bool × ℕ)) → number ≡ first ts → r ≡ first ((countsOut mostNid room t c, 9) ∷ (not fits, 13) ∷ ts)) ⌝ }
 {
     if counts_out(MOST_NID, room, t, c) {
         return 9;
@@ -92,7 +99,7 @@ fn refuse(
     if !fits {
         return 13;
     }
-    refuse_record(list, room, t, c, i, address, flag)
+    number
 }
 
 // What an accepted call does.
@@ -105,14 +112,14 @@ fn accept(
     t: Tally,
     c: Counts,
     e: Reads,
+    needs: Room,
     i: Instruction,
     address: u64,
 ) -> Apart
-    requires { ⌜ Ready t c i address ⌝ }
+    requires { ⌜ Ready t c needs i address ⌝ }
     ensures { λ r. ⌜ givenApart r (lent (now (list .exit)) (now (names .exit)) (now (edges .exit)) (now (dispatches .exit)) (now (bads .exit))) ≡ acceptedApart (lent (now (list .entry)) (now (names .entry)) (now (edges .entry)) (now (dispatches .entry)) (now (bads .entry))) t c i address (exec append (at (now (list .entry)) t) (programFrom e (c .names) i address)) ⌝ }
 {
     let class = class_of(i.kind);
-    let needs = needs_of(i.kind, i.imm == 0, i.rd == 0, i.rs1 == 0, address);
     let m = lower_lines(list, t, c.names, e, i, address);
     let outcome = m.outcome;
     edges::go_to_instructions(edges, c.edges, class, address, i.imm, outcome);

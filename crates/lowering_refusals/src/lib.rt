@@ -7,7 +7,7 @@ use instruction_class::line_count;
 use instruction_class::needs_flag;
 use riscv::Instruction;
 ghost use mathlib.Core.Path.{_≡_};
-ghost use Rattle.lowering_refusals.specs.Refusal.{roomOf, countsOut, needsOf, roomOut, flagOut, testsOfRecord};
+ghost use Rattle.lowering_refusals.specs.Refusal.{roomOf, countsOut, needsOf, needs as needsAt, roomOut, flagOut, testsOfRecord};
 ghost use lib.Dec.{ltb};
 ghost use Prim.Native.Nat.{_+_};
 ghost use Rattle.riscv.specs.Kind.{kindAt};
@@ -47,6 +47,12 @@ pub struct Room {
     pub bads: usize,
 }
 
+// The refusal of a record, 0 where there is none, and what it needs.
+pub struct Weighed {
+    pub refusal: u64,
+    pub needs: Room,
+}
+
 // How much lent storage of these lengths holds.
 pub fn room_of(list: usize, names: usize, edges: usize, dispatches: usize, bads: usize) -> Room
     ensures { λ r. ⌜ r ≡ roomOf list names edges dispatches bads ⌝ }
@@ -73,7 +79,7 @@ pub fn counts_out(most: u64, room: Room, t: Tally, c: Counts) -> bool
 }
 
 // What an instruction appends. `z`, `d`, `s`: imm is 0, rd is x0, rs1 is x0.
-pub fn needs_of(kind: u64, z: bool, d: bool, s: bool, address: u64) -> Room
+fn needs_of(kind: u64, z: bool, d: bool, s: bool, address: u64) -> Room
     ensures { λ r. ⌜ r ≡ needsOf (kindAt kind) z d s address ⌝ }
 {
     let class = class_of(kind);
@@ -107,8 +113,8 @@ pub fn needs_of(kind: u64, z: bool, d: bool, s: bool, address: u64) -> Room
     }
 }
 
-// The first of 1 to 6, 7 and 8 that applies to a record and what is lent for it, or 0.
-pub fn refuse_record(
+// The first of 1 to 6, 7 and 8 that applies to a record and what is lent for it, or 0, and what the record needs.
+pub fn weigh(
     list: &[u64],
     room: Room,
     t: Tally,
@@ -116,7 +122,26 @@ pub fn refuse_record(
     i: Instruction,
     address: u64,
     flag: NodeRef,
+) -> Weighed
+    ensures refusal { λ r. ⌜ r .refusal ≡ first (testsOfRecord (now (list .entry)) room t c i address (flag .0)) ⌝ }
+    ensures needs { λ r. ⌜ r .needs ≡ needsAt i address ⌝ }
+{
+    let needs = needs_of(i.kind, i.imm == 0, i.rd == 0, i.rs1 == 0, address);
+    let refusal = refuse_record(list, room, t, c, needs, i, address, flag);
+    Weighed { refusal, needs }
+}
+
+fn refuse_record(
+    list: &[u64],
+    room: Room,
+    t: Tally,
+    c: Counts,
+    needs: Room,
+    i: Instruction,
+    address: u64,
+    flag: NodeRef,
 ) -> u64
+    requires { ⌜ needs ≡ needsAt i address ⌝ }
     ensures { λ r. ⌜ r ≡ first (testsOfRecord (now (list .entry)) room t c i address (flag .0)) ⌝ }
 {
     let number = riscv::check(i);
@@ -126,7 +151,6 @@ pub fn refuse_record(
     if flag_out(list, t.lines, i, flag) {
         return 7;
     }
-    let needs = needs_of(i.kind, i.imm == 0, i.rd == 0, i.rs1 == 0, address);
     if room_out(room, t, c, needs) {
         return 8;
     }

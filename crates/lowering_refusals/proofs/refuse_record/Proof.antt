@@ -29,11 +29,11 @@ past7 c h =
     pastRecord (c .before .before) (miss 7 (from8 (now (a .list)) (a .room) (a .t) (a .c) (a .i) (a .address) (a .flag .0)) (sym (c .before .flag-out .ensures) ∙ c .if2 .left) h)
 
 -- the room is that of what the instruction needs
-roomed : (c : tie.After-room-out) → let a = c .before .before .before .before .before .before .before .before .before .before .args in
+roomed : (c : tie.After-room-out) → let a = c .before .before .before .before .before .before .args in
     c .room-out .result ≡ roomOut (a .room) (a .t) (a .c) (needed (a .i) (a .address))
 roomed c =
-    let a = c .before .before .before .before .before .before .before .before .before .before .args in
-    c .room-out .ensures ∙ ap (λ (n : Room). roomOut (a .room) (a .t) (a .c) n) (c .before .needs-of .ensures)
+    let start = c .before .before .before .before .before .before in
+    c .room-out .ensures ∙ ap (λ (n : Room). roomOut (start .args .room) (start .args .t) (start .args .c) n) (start .pre)
 
 returns : tie.Need-returns
 returns c =
@@ -47,12 +47,12 @@ returns-2 c =
     pastRecord (c .before .before) (hit 7 (from8 (now (a .list)) (a .room) (a .t) (a .c) (a .i) (a .address) (a .flag .0)) (sym (c .before .flag-out .ensures) ∙ c .if2 .taken))
 
 returns-3 : tie.Need-returns-3
-returns-3 c = past7 (c .before .before .before .before .before .before) (hit 8 [] (sym (roomed (c .before)) ∙ c .if3 .taken))
+returns-3 c = past7 (c .before .before) (hit 8 [] (sym (roomed (c .before)) ∙ c .if3 .taken))
 
 returns-4 : tie.Need-returns-4
-returns-4 c = past7 (c .before .before .before .before .before .before) (miss 8 [] (sym (roomed (c .before)) ∙ c .if3 .left) refl)
+returns-4 c = past7 (c .before .before) (miss 8 [] (sym (roomed (c .before)) ∙ c .if3 .left) refl)
 
 pub refuse-record-spec : {M : Type 1} → statement M
 refuse-record-spec =
     tie.close
-    (tie.spec (λ c κs. search needs) returns (λ c κs. search needs) returns-2 (λ c κs. search needs) (λ c κs. search needs) returns-3 returns-4)
+    (tie.spec (λ c κs. search needs) returns (λ c κs. search needs) returns-2 (λ c κs. search needs) returns-3 returns-4)

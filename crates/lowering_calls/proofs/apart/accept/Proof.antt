@@ -5,10 +5,10 @@ use Rattle.lowering_calls.proofs.apart.accept.Statement.{statement}
 use Rattle.lowering_calls.proofs.apart.accept.Tie as tie
 
 put-indirect-requires : tie.Need-put-indirect-requires
-put-indirect-requires c κs = c .before .before .before .before .before .before .before .before .before .before .before .before .before .before .before .before .before .before .before .before .before .before .before .pre .lines
+put-indirect-requires c κs = c .before .before .before .before .before .before .before .before .before .before .before .before .before .before .before .before .before .before .before .pre .lines
 
 counts-after-requires : tie.Need-counts-after-requires
-counts-after-requires c κs = rw (c .before .before .before .before .before .before .before .before .before .before .before .before .before .before .before .before .before .before .before .before .needs-of .ensures) (c .before .before .before .before .before .before .before .before .before .before .before .before .before .before .before .before .before .before .before .before .before .before .before .before .before .before .before .before .before .before .pre .added)
+counts-after-requires c κs = c .before .before .before .before .before .before .before .before .before .before .before .before .before .before .before .before .before .before .before .before .before .before .before .before .before .before .pre .added
 
 returns : tie.Need-returns
 unfolding acceptedApart
@@ -17,11 +17,11 @@ returns c =
     let indirect = counts .before .before .before .before .before .before .before in
     let edges = indirect .before .before .before .before .before .before .before .before in
     let lines = edges .before .before .before .before in
-    let needed = lines .before .before in
-    let classed = needed .before .before .before .before in
-    rw (← lines .lower-lines .ensures .is, ← classed .class-of .ensures, ← needed .needs-of .ensures, ← counts .counts-after .ensures, ← edges .go-to-instructions .ensures, ← indirect .put-indirect .ensures .0, ← indirect .put-indirect .ensures .1 .0, ← indirect .put-indirect .ensures .1 .1)
+    let classed = lines .before .before in
+    let start = classed .before .before .before .before .before .before in
+    rw (← lines .lower-lines .ensures .is, ← classed .class-of .ensures, ← start .pre .is, ← counts .counts-after .ensures, ← edges .go-to-instructions .ensures, ← indirect .put-indirect .ensures .0, ← indirect .put-indirect .ensures .1 .0, ← indirect .put-indirect .ensures .1 .1)
 
 pub accept-spec : {M : Type 1} → statement M
 accept-spec =
     tie.close
-    (tie.spec (λ c κs. search needs) (λ c κs. search needs) (λ c κs. search needs) (λ c κs. search needs) put-indirect-requires counts-after-requires (λ c. search needs) (λ c. search needs) (λ c. search needs) (λ c. search needs) (λ c. search needs) returns)
+    (tie.spec (λ c κs. search needs) (λ c κs. search needs) (λ c κs. search needs) put-indirect-requires counts-after-requires (λ c. search needs) (λ c. search needs) (λ c. search needs) (λ c. search needs) (λ c. search needs) returns)
