@@ -11,7 +11,7 @@ use Rattle.roles.specs.Roles.{ref, roleCount}
 use Rattle.lowering_refusals.specs.declared.State.{State}
 use Rattle.lowering.specs.Lowering.{Lent, Answer, lowering}
 
--- ---- the state's words: lines, next identifier, counts of names, edges, dispatches and bads, and from the sixth on the roles
+-- ---- the state's words: lines, next identifier, counts of names, edges, dispatches and bads, and from word 6 on the roles
 
 abbrev pub firstRole : ℕ
 firstRole = 6
