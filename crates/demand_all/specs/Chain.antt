@@ -6,7 +6,8 @@ use mathlib.Core.Path.{_≡_}
 use mathlib.Core.List.{List, [], _∷_}
 use lib.ListN.{length, set}
 use Rattle.lowering.specs.Lowering.{Lent, lent}
-use Rattle.lowering.specs.Words.{stateWords, stateIn, Given, loweringWords}
+use Rattle.state_words.specs.Words.{stateWords, stateIn}
+use Rattle.lowering.specs.Words.{Given, loweringWords}
 use Rattle.lowering.specs.All as All
 use Rattle.demand.specs.Calls.{Held, Request, Call, lower, run}
 

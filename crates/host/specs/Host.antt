@@ -9,7 +9,7 @@ use Rattle.lowering_refusals.specs.declared.Room.{Room}
 use Rattle.print.specs.Printing as Printing
 use Rattle.print.specs.Printing.{refused, written, printing}
 use Rattle.start.specs.Start.{startRefusal}
-use Rattle.lowering.specs.Words.{stateWords, stateIn}
+use Rattle.state_words.specs.Words.{stateWords, stateIn}
 
 -- ---- printing
 

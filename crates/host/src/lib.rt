@@ -1,8 +1,8 @@
 // The library for a host in C or Rust. A slice is a pointer and a length there; the state is 85 words that the host keeps.
 use btor2::NodeRef;
-use lowering_calls::STATE_WORDS;
 use print::Printed;
 use riscv::Instruction;
+use state_words::STATE_WORDS;
 ghost use mathlib.Core.Path.{_≡_};
 ghost use lib.ListN.{length};
 ghost use Rattle.lowering.specs.Lowering.{lent};
@@ -117,6 +117,6 @@ pub extern "C" fn lanthanumbat_check_start(
     if state.len() < STATE_WORDS {
         return BAD_COUNT;
     }
-    let given = lowering_calls::state_in(state);
+    let given = state_words::state_in(state);
     start::check_start(list, host, names, edges, dispatches, bads, given)
 }

@@ -8,7 +8,7 @@ use Rattle.btor2.specs.declared.NodeRef.{NodeRef}
 use Rattle.riscv.specs.declared.Instruction.{Instruction}
 use Rattle.lowering_refusals.specs.declared.State.{State}
 use Rattle.lowering.specs.Lowering.{Lent, lowering}
-use Rattle.lowering.specs.Words.{stateWords, stateIn, withState}
+use Rattle.state_words.specs.Words.{stateWords, stateIn, withState}
 
 -- ---- a call is seven words: address, kind, rd, rs1, rs2, imm, flag
 

@@ -16,10 +16,9 @@ use Rattle.edges.specs.Edges.{edgesAfter}
 use Rattle.models.specs.Places as P
 use Rattle.riscv.specs.declared.Instruction.{Instruction}
 use Rattle.riscv.specs.Kind.{kindAt}
-use Rattle.roles.specs.Roles.{memoryFlow, role, registerFlow, operandsFor, flowsIn, withFlows, withOutcome}
+use Rattle.roles.specs.Roles.{readsIn, withFlows, withOutcome}
 use Rattle.roles_check.specs.RolesFit.{rolesFit}
 use Rattle.text.specs.BadName.{badName}
-use Rattle.lowering_lines.specs.declared.Reads.{Reads}
 use Rattle.lowering_lines.specs.Lines.{programFrom}
 use Rattle.lowering_refusals.specs.declared.Counts.{Counts}
 use Rattle.lowering_refusals.specs.declared.Room.{Room}
@@ -45,15 +44,6 @@ pub record Answer : Type 0 where
 
 abbrev pub answer : Lowered → Lent → Answer
 answer r l = record { lowered = r; lent = l }
-
--- what an instruction reads of the roles: "All operands come from register nodes", and the flows that its lines replace
-abbrev pub readsIn : List NodeRef → NodeRef → Instruction → Reads
-readsIn roles flag i = record {
-  operands = operandsFor roles flag (i .rs1) (i .rs2);
-  flows = flowsIn roles;
-  register = registerFlow roles (i .rd);
-  memory = role roles memoryFlow;
-}
 
 -- the lines of an instruction, from what it reads
 unfoldable pub programOf : State → Instruction → ℕ → NodeRef → Prog ℕ (P.Modeled ℕ)

@@ -12,10 +12,11 @@ use Rattle.riscv.specs.declared.Instruction.{Instruction}
 use Rattle.roles.specs.Roles.{roleCount}
 use Rattle.lowering_refusals.specs.declared.State.{State}
 use Rattle.lowering.specs.Lowering.{Lent, Answer, answer, loweringGiven, lowering}
-use Rattle.lowering.specs.Words.{stateWords, stateIn, stateOut, withState, Given, given, givenBy, loweringWords}
+use Rattle.state_words.specs.Words.{stateWords, stateIn, stateOut, withState}
+use Rattle.lowering.specs.Words.{Given, given, givenBy, loweringWords}
 use Rattle.lowering.specs.All.{GivenAll, loweringAllWords}
 use Rattle.lowering.proofs.Refused.{refused-kept}
-use Rattle.lowering.proofs.Words.{read-back, read-out, out-length}
+use Rattle.state_words.proofs.Words.{read-back, read-out, out-length}
 use Rattle.lowering_calls.specs.Known.{knownWords, wordsAll}
 use Rattle.lowering_calls.proofs.Same.{Fits, size-on, same-by-words}
 

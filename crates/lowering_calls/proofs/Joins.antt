@@ -3,6 +3,7 @@ use Prim.Native.Nat.{ℕ, _≤_}
 use mathlib.Core.Path.{_≡_, refl, sym, ap, _∙_}
 use mathlib.Core.Bool.{Bool, true, false, cond}
 use mathlib.Core.List.{List}
+use borrow.Author.Tests.{le-ltb}
 use lib.Dec.{eqb}
 use lib.ListN.{length}
 use Rattle.btor2.specs.declared.NodeRef.{NodeRef}
@@ -13,13 +14,15 @@ use Rattle.riscv.specs.declared.Instruction.{Instruction}
 use Rattle.lowering_refusals.specs.declared.Counts.{Counts}
 use Rattle.lowering_refusals.specs.declared.State.{State}
 use Rattle.lowering_refusals.specs.Refusal.{refusalGiven}
-use Rattle.lowering_lines.specs.declared.Reads.{Reads}
+use Rattle.roles.specs.declared.Reads.{Reads}
 use Rattle.lowering_lines.specs.Lines.{programFrom}
-use Rattle.lowering.specs.Lowering.{Lent, Answer, roomIn, readsIn, programOf, settled, refused, loweringGiven}
-use Rattle.lowering.specs.Words.{stateWords, rolesIn, stateIn, withState, given, givenBy}
+use Rattle.roles.specs.Roles.{readsIn}
+use Rattle.lowering.specs.Lowering.{Lent, Answer, roomIn, programOf, settled, refused, loweringGiven}
+use Rattle.lowering.specs.Words.{given, givenBy}
 use Rattle.lowering.proofs.Refused.{refused-kept}
-use Rattle.lowering.proofs.Words.{state-kept}
-use Rattle.lowering_calls.specs.Apart.{GivenApart, acceptedApart, refusedApart, callApart, stateOf, rolesAfter, joined}
+use Rattle.state_words.proofs.Words.{state-kept}
+use Rattle.state_words.specs.Words.{stateWords, rolesIn, stateOf, stateIn, withState, rolesHeld, stored}
+use Rattle.lowering_calls.specs.Apart.{GivenApart, acceptedApart, refusedApart, callApart, joined}
 use Rattle.lowering_calls.specs.Known.{knownWords}
 
 module _ (fits : Bool) (l : Lent) (roles : List NodeRef) (t : Tally) (c : Counts) (i : Instruction) (pc : ℕ) (flag : NodeRef) where
@@ -45,12 +48,15 @@ parted ws = refl
 
 -- over words: what was read of them, and what the call gave
 module _ (fits : Bool) (l : Lent) (ws : List ℕ) (i : Instruction) (pc : ℕ) (flag : NodeRef) (t : Tally) (c : Counts) (e : Reads) (p : GivenApart) (enough : stateWords ≤ length ws) (t-is : t ≡ stateIn ws .tally) (c-is : c ≡ stateIn ws .counts)
-    (e-is : e ≡ readsIn (rolesIn ws) flag i) (gave : p ≡ callApart fits l t c e i pc flag) where
+    (e-is : e ≡ readsIn (rolesHeld ws) flag i) (gave : p ≡ callApart fits l t c e i pc flag) where
+  held : rolesHeld ws ≡ rolesIn ws
+  held = rw (le-ltb (length ws) stateWords enough)
+
   whole : joined (rolesIn ws) (i .rd) p ≡ loweringGiven fits l (stateIn ws) i pc flag
   whole =
       ap (joined (rolesIn ws) (i .rd))
       (gave ∙ ap (λ (x : Tally). callApart fits l x c e i pc flag) t-is ∙ ap (λ (x : Counts). callApart fits l (stateIn ws .tally) x e i pc flag) c-is
-      ∙ ap (λ (x : Reads). callApart fits l (stateIn ws .tally) (stateIn ws .counts) x i pc flag) e-is)
+      ∙ ap (λ (x : Reads). callApart fits l (stateIn ws .tally) (stateIn ws .counts) x i pc flag) (e-is ∙ ap (λ (roles : List NodeRef). readsIn roles flag i) held))
       ∙ joins fits l (rolesIn ws) (stateIn ws .tally) (stateIn ws .counts) i pc flag
       ∙ ap (λ (s : State). loweringGiven fits l s i pc flag) (parted ws)
 
@@ -60,8 +66,8 @@ module _ (fits : Bool) (l : Lent) (ws : List ℕ) (i : Instruction) (pc : ℕ) (
       let kept : joined (rolesIn ws) (i .rd) p .lowered .state ≡ stateIn ws = ap (λ (a : Answer). a .lowered .state) whole ∙ refused-kept fits l (stateIn ws) i pc flag (λ z. n (ap (λ (a : Answer). a .lowered .refusal) whole ∙ z)) in
       ap (given (p .refusal) (p .lent)) (sym (ap (withState ws) kept ∙ state-kept ws enough)) ∙ ap (givenBy ws) whole
 
-  pub written : p .refusal ≡ 0 → given 0 (p .lent) (withState ws (stateOf (p .tally) (p .counts) (rolesAfter (rolesIn ws) (i .rd) p))) ≡ knownWords fits l ws i pc flag
+  pub written : p .refusal ≡ 0 → given 0 (p .lent) (stored ws (p .tally) (p .counts) (p .flows) (i .rd) (p .outcome)) ≡ knownWords fits l ws i pc flag
   unfolding knownWords
   written z =
-      let all : given 0 (p .lent) (withState ws (stateOf (p .tally) (p .counts) (rolesAfter (rolesIn ws) (i .rd) p))) ≡ givenBy ws (joined (rolesIn ws) (i .rd) p) = rw z in
+      let all : given 0 (p .lent) (stored ws (p .tally) (p .counts) (p .flows) (i .rd) (p .outcome)) ≡ givenBy ws (joined (rolesIn ws) (i .rd) p) = rw (le-ltb (length ws) stateWords enough, z) in
       all ∙ ap (givenBy ws) whole

@@ -1,5 +1,3 @@
-pub mod Stored
-pub mod Put
 pub mod Joins
 pub mod Ready
 pub mod Steps

@@ -15,10 +15,10 @@ use Rattle.riscv.specs.declared.Instruction.{Instruction}
 use Rattle.riscv.specs.Kind.{kindAt}
 use Rattle.roles.specs.Roles.{withFlows, withOutcome}
 use Rattle.lowering_refusals.specs.declared.Counts.{Counts}
-use Rattle.lowering_refusals.specs.declared.State.{State}
 use Rattle.lowering_refusals.specs.Refusal.{needs, refusalGiven}
-use Rattle.lowering_lines.specs.declared.Reads.{Reads}
+use Rattle.roles.specs.declared.Reads.{Reads}
 use Rattle.lowering_lines.specs.Lines.{programFrom}
+use Rattle.state_words.specs.Words.{stateOf}
 use Rattle.lowering.specs.Lowering.{Lent, lent, Answer, roomIn, namesAfter, dispatchesAfter, badsAfter, countsAfter}
 use Rattle.lowering_calls.specs.declared.apart.Apart.{Apart}
 
@@ -68,9 +68,6 @@ callApart fits l t c e i pc flag =
     cond (eqb n 0) (acceptedApart l t c i pc (exec append (at (l .list) t) (programFrom e (c .names) i pc))) (refusedApart n l t c e)
 
 -- with the roles: those that an accepted call sets are set
-abbrev pub stateOf : Tally → Counts → List NodeRef → State
-stateOf t c roles = record { tally = t; counts = c; roles = roles }
-
 abbrev pub rolesAfter : List NodeRef → ℕ → GivenApart → List NodeRef
 rolesAfter roles rd p = withOutcome (withFlows roles (p .flows)) rd (p .outcome)
 

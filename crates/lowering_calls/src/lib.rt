@@ -1,25 +1,25 @@
 // The calls: one instruction over the state's words or over a state, and many in one. Each tests the roles itself; many test them once, since an
 // accepted call's roles fit again (crates/roles_kept).
 mod apart;
-mod words;
 
+use apart::Apart;
 use apart::lower_apart;
 use btor2::NodeRef;
 use lowering::Lowered;
 use lowering_refusals::State;
 use riscv::Instruction;
+use state_words::STATE_WORDS;
 ghost use mathlib.Core.Path.{_≡_};
 ghost use mathlib.Core.Bool.{not};
 ghost use Prim.Native.Nat.{_+_, _*_, _≤_};
 ghost use lib.ListN.{length, drop};
+ghost use Rattle.models.specs.Code.{flowsOf, outcomeOf};
 ghost use Rattle.roles_check.specs.RolesFit.{rolesFit};
 ghost use Rattle.lowering.specs.Lowering.{lent, answer, lowering};
-ghost use Rattle.lowering.specs.Words.{stateWords, stateIn, given, loweringWords};
+ghost use Rattle.state_words.specs.Words.{stateWords, stateIn, stored};
+ghost use Rattle.lowering.specs.Words.{given, loweringWords};
 ghost use Rattle.lowering.specs.All.{callWords, callIn, givenAll, loweringAllWords};
 ghost use Rattle.lowering_calls.specs.Known.{knownWords, wordsAll};
-
-// The words of a state: lines, next identifier, counts of names, edges, dispatches and bads, and the roles.
-pub const STATE_WORDS: usize = words::STATE_WORDS;
 
 // The words of a call: address, kind, rd, rs1, rs2, imm, flag.
 pub const CALL: usize = 7;
@@ -34,6 +34,12 @@ const BAD_COUNT: u64 = 9;
 pub struct Stopped {
     pub done: usize,
     pub refusal: u64,
+}
+
+struct Call {
+    instruction: Instruction,
+    address: u64,
+    flag: NodeRef,
 }
 
 // Lowers an instruction at an address under a flag. `state` says how much of each lent list is in use, the next identifier and the roles.
@@ -54,7 +60,7 @@ pub fn lower(
     let t = state.tally;
     let c = state.counts;
     let places = state.roles;
-    let mut words = words::words_of(t, c, places);
+    let mut words = state_words::words_of(t, c, places);
     let refusal = lower_words(
         list,
         names,
@@ -66,7 +72,7 @@ pub fn lower(
         address,
         flag,
     );
-    let after = words::state_in(&words);
+    let after = state_words::state_in(&words);
     Lowered {
         refusal,
         state: after,
@@ -127,18 +133,11 @@ pub fn lower_all(
     lower_rest(list, names, edges, dispatches, bads, state, calls, fits)
 }
 
-// The state in words; 0 for a word that is missing.
-pub fn state_in(words: &[u64]) -> State
-    ensures { λ r. ⌜ r ≡ stateIn (now (words .entry)) ⌝ }
-{
-    words::state_in(words)
-}
-
 // Whether the roles of the state in these words fit.
 fn roles_fit(list: &[u64], words: &[u64]) -> bool
     ensures { λ r. ⌜ r ≡ rolesFit (now (list .entry)) (stateIn (now (words .entry)) .tally .lines) 0 (stateIn (now (words .entry)) .roles) ⌝ }
 {
-    let state = words::state_in(words);
+    let state = state_words::state_in(words);
     let t = state.tally;
     let places = state.roles;
     !roles_check::roles_out(list, t.lines, places)
@@ -160,9 +159,9 @@ fn lower_known(
     requires { ⌜ stateWords ≤ length (now state) ⌝ }
     ensures { λ r. ⌜ given r (lent (now (list .exit)) (now (names .exit)) (now (edges .exit)) (now (dispatches .exit)) (now (bads .exit))) (now (state .exit)) ≡ knownWords fits (lent (now (list .entry)) (now (names .entry)) (now (edges .entry)) (now (dispatches .entry)) (now (bads .entry))) (now (state .entry)) i address flag ⌝ }
 {
-    let t = words::tally_in(state);
-    let c = words::counts_in(state);
-    let e = words::reads_in(state, flag, i);
+    let t = state_words::tally_in(state);
+    let c = state_words::counts_in(state);
+    let e = state_words::reads_in(state, flag, i);
     let p = lower_apart(
         list,
         names,
@@ -181,8 +180,19 @@ fn lower_known(
     if refusal != 0 {
         return refusal;
     }
-    words::put_apart(state, i.rd, p);
+    put_apart(state, i.rd, p);
     0
+}
+
+// Puts what an accepted call gives into a state's words.
+fn put_apart(words: &mut [u64], rd: u64, p: Apart)
+    ensures { λ _. ⌜ now (words .exit) ≡ stored (now (words .entry)) (p .tally) (p .counts) (flowsOf (p .flows)) rd (outcomeOf (p .outcome)) ⌝ }
+{
+    let t = p.tally;
+    let c = p.counts;
+    let flows = p.flows;
+    let outcome = p.outcome;
+    state_words::put_state(words, t, c, flows, rd, outcome);
 }
 
 // All calls where it is known whether the roles fit at the start.
@@ -202,15 +212,19 @@ fn lower_rest(
     let count = calls.len() / CALL;
     let mut done = 0;
     while done < count {
-        let refusal = lower_next(
+        let call = call_at(calls, done);
+        let i = call.instruction;
+        let flag = call.flag;
+        let refusal = lower_known(
             list,
             names,
             edges,
             dispatches,
             bads,
             state,
-            calls,
-            done,
+            i,
+            call.address,
+            flag,
             fits,
         );
         if refusal != 0 {
@@ -222,40 +236,22 @@ fn lower_rest(
 }
 
 // The call after `done` others.
-fn lower_next(
-    list: &mut [u64],
-    names: &mut [u8],
-    edges: &mut [u64],
-    dispatches: &mut [u64],
-    bads: &mut [u64],
-    state: &mut [u64],
-    calls: &[u64],
-    done: usize,
-    fits: bool,
-) -> u64
-    requires { ⌜ (done * 7 + 7 ≤ length (now calls)) × (stateWords ≤ length (now state)) ⌝ }
-    ensures { λ r. ⌜ given r (lent (now (list .exit)) (now (names .exit)) (now (edges .exit)) (now (dispatches .exit)) (now (bads .exit))) (now (state .exit)) ≡ knownWords fits (lent (now (list .entry)) (now (names .entry)) (now (edges .entry)) (now (dispatches .entry)) (now (bads .entry))) (now (state .entry)) (callIn (drop (done * callWords) (now (calls .entry))) .instruction) (callIn (drop (done * callWords) (now (calls .entry))) .address) (callIn (drop (done * callWords) (now (calls .entry))) .flag) ⌝ }
+fn call_at(calls: &[u64], done: usize) -> Call
+    requires { ⌜ done * callWords + callWords ≤ length (now calls) ⌝ }
+    ensures instruction { λ r. ⌜ r .instruction ≡ callIn (drop (done * callWords) (now (calls .entry))) .instruction ⌝ }
+    ensures address { λ r. ⌜ r .address ≡ callIn (drop (done * callWords) (now (calls .entry))) .address ⌝ }
+    ensures flag { λ r. ⌜ r .flag ≡ callIn (drop (done * callWords) (now (calls .entry))) .flag ⌝ }
 {
     let from = done * CALL;
-    let i = Instruction {
-        kind: calls[from + 1],
-        rd: calls[from + 2],
-        rs1: calls[from + 3],
-        rs2: calls[from + 4],
-        imm: calls[from + 5],
-    };
-    let address = calls[from];
-    let flag = NodeRef(calls[from + 6] as usize);
-    lower_known(
-        list,
-        names,
-        edges,
-        dispatches,
-        bads,
-        state,
-        i,
-        address,
-        flag,
-        fits,
-    )
+    Call {
+        instruction: Instruction {
+            kind: calls[from + 1],
+            rd: calls[from + 2],
+            rs1: calls[from + 3],
+            rs2: calls[from + 4],
+            imm: calls[from + 5],
+        },
+        address: calls[from],
+        flag: NodeRef(calls[from + 6] as usize),
+    }
 }

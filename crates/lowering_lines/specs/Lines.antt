@@ -14,7 +14,7 @@ use Rattle.models.specs.Code.{operandsOf, flowsOf}
 use Rattle.riscv.specs.declared.Instruction.{Instruction}
 use Rattle.riscv.specs.Kind.{kindAt}
 use Rattle.text.specs.BadName.{badName}
-use Rattle.lowering_lines.specs.declared.Reads.{Reads}
+use Rattle.roles.specs.declared.Reads.{Reads}
 
 -- the mark of our area in a name (btor2_name/specs/NameBytes)
 abbrev pub ourArea : ℕ

@@ -1,27 +1,17 @@
 // The lines of an instruction, from what it reads of the roles, with the name of Jalr's bad line.
 use btor2::Name;
-use btor2::NodeRef;
 use builder::Tally;
 use instruction_class::Class;
 use instruction_class::class_of;
 use instruction_class::is_indirect;
-use models::Flows;
 use models::Modeled;
-use models::Operands;
 use riscv::Instruction;
+use roles::Reads;
 ghost use mathlib.Core.Path.{_≡_};
 ghost use Rattle.btor2_list.specs.Node.{noName};
 ghost use Rattle.builder.specs.Gives.{Gives};
 ghost use Rattle.models.specs.Code.{modeledOf};
 ghost use Rattle.lowering_lines.specs.Lines.{nameFor, programFrom};
-
-// What an instruction reads of the roles.
-pub struct Reads {
-    pub operands: Operands,
-    pub flows: Flows,
-    pub register: NodeRef,
-    pub memory: NodeRef,
-}
 
 // The lines of an instruction.
 pub fn lower_lines(

@@ -1,6 +1,10 @@
 // The roles: which line stands for each node and flow of the builder. How many there are, and where each stands: zero and one as Bit and as
 // Word; the memory, counter and counter maximum nodes; the register nodes x0 to x31; the register flows x1 to x31; the memory, counter and
 // counter maximum flows; the division, remainder and access flows; the two overflow flows and the ecall flow.
+use btor2::NodeRef;
+use models::Flows;
+use models::Operands;
+
 pub const ROLES: usize = 79;
 
 pub const ZERO_BIT: usize = 0;
@@ -39,3 +43,11 @@ pub const ADDITION_FLOW: usize = 76;
 pub const MULTIPLICATION_FLOW: usize = 77;
 
 pub const ECALL_FLOW: usize = 78;
+
+// What an instruction reads of the roles.
+pub struct Reads {
+    pub operands: Operands,
+    pub flows: Flows,
+    pub register: NodeRef,
+    pub memory: NodeRef,
+}

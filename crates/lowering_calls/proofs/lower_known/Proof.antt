@@ -22,9 +22,6 @@ returns c =
     (tally .tally-in .result) (counts .counts-in .result) (reads .reads-in .result) (givenApart (call .lower-apart .result) there) (start .pre) (tally .tally-in .ensures) (counts .counts-in .ensures) (reads .reads-in .ensures)
     (call .lower-apart .ensures) (c .if1 .taken)
 
-put-apart-requires : tie.Need-put-apart-requires
-put-apart-requires c κs = c .before .before .before .before .before .before .before .before .before .before .before .before .before .before .before .before .before .before .before .before .before .before .before .before .before .before .before .before .before .before .pre
-
 returns-2 : tie.Need-returns-2
 returns-2 c =
     let put = c .before .before in
@@ -44,4 +41,4 @@ returns-2 c =
 pub lower-known-spec : {M : Type 1} → statement M
 lower-known-spec =
     tie.close
-    (tie.spec (λ c κs. search needs) (λ c κs. search needs) (λ c κs. search needs) (λ c κs. search needs) (λ c. search needs) (λ c. search needs) (λ c. search needs) (λ c. search needs) (λ c. search needs) (λ c. search needs) returns put-apart-requires (λ c. search needs) (λ c. search needs) (λ c. search needs) (λ c. search needs) (λ c. search needs) (λ c. search needs) returns-2)
+    (tie.spec (λ c κs. search needs) (λ c κs. search needs) (λ c κs. search needs) (λ c κs. search needs) (λ c. search needs) (λ c. search needs) (λ c. search needs) (λ c. search needs) (λ c. search needs) (λ c. search needs) returns (λ c κs. search needs) (λ c. search needs) (λ c. search needs) (λ c. search needs) (λ c. search needs) (λ c. search needs) (λ c. search needs) returns-2)

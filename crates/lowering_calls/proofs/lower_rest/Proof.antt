@@ -6,7 +6,8 @@ use borrow.Author.Needs.{needs}
 use denote.Ref.{now}
 use lib.ListN.{length, drop}
 use Rattle.lowering.specs.Lowering.{lent}
-use Rattle.lowering.specs.Words.{stateWords, given}
+use Rattle.state_words.specs.Words.{stateWords}
+use Rattle.lowering.specs.Words.{given}
 use Rattle.lowering.specs.All.{callIn, callsIn}
 use Rattle.lowering_calls.specs.Known.{wordsOn, wordsAll}
 use Rattle.lowering_calls.proofs.Steps.{from-none, calls-next, ends, stops, goes-on}
@@ -32,42 +33,47 @@ loop-holds c =
       from-none (a .fits) (lent (now (a .list)) (now (a .names)) (now (a .edges)) (now (a .dispatches)) (now (a .bads))) (now (a .state)) (now (a .calls)),
     )
 
-lower-next-requires : tie.Need-lower-next-requires Inv-loop μ-loop
-lower-next-requires c κs = (omega arith, c .before .before .before .before .before .before .before .loop .inv .3)
+call-at-requires : tie.Need-call-at-requires Inv-loop μ-loop
+call-at-requires c κs = omega arith
+
+lower-known-requires : tie.Need-lower-known-requires Inv-loop μ-loop
+lower-known-requires c κs = c .before .before .before .before .before .before .before .before .before .before .loop .inv .3
 
 returns : tie.Need-returns Inv-loop μ-loop
 returns c =
     let call = c .before .before .before .before .before .before .before .before .before .before .before .before .before in
-    let at = call .before .before .before .before .before .before .before .before in
+    let told = call .before .before .before .before .before .before .before .before .before in
+    let at = told .before .before in
     let a = at .before .before .before .before .before .before .before .before .args in
     let here = lent (at .loop .list) (at .loop .names) (at .loop .edges) (at .loop .dispatches) (at .loop .bads) in
-    let gave = given (call .lower-next .result) (lent (call .lower-next .last .0) (call .lower-next .last .1 .0) (call .lower-next .last .1 .1 .0) (call .lower-next .last .1 .1 .1 .0) (call .lower-next .last .1 .1 .1 .1 .0)) (call .lower-next .last .1 .1 .1 .1 .1 .0) in
+    let gave = given (call .lower-known .result) (lent (call .lower-known .last .0) (call .lower-known .last .1 .0) (call .lower-known .last .1 .1 .0) (call .lower-known .last .1 .1 .1 .0) (call .lower-known .last .1 .1 .1 .1 .0)) (call .lower-known .last .1 .1 .1 .1 .1 .0) in
     let next = callIn (drop (at .loop .done * 7) (now (a .calls))) in
     let left = callsIn (length (now (a .calls)) / 7 - (at .loop .done + 1)) (drop ((at .loop .done + 1) * 7) (now (a .calls))) in
-    stops (a .fits) here (at .loop .state) next gave (call .lower-next .ensures) (at .loop .done) left (c .if1 .taken)
+    stops (a .fits) here (at .loop .state) next gave (rw (← told .call-at .ensures .0, ← told .call-at .ensures .1 .0, ← told .call-at .ensures .1 .1) (call .lower-known .ensures)) (at .loop .done) left (c .if1 .taken)
     ∙ ap (wordsOn (a .fits) (at .loop .done) here (at .loop .state)) (sym (calls-next (length (now (a .calls)) / 7) (at .loop .done) (now (a .calls)) (omega arith)))
     ∙ at .loop .inv .4
 
 add-done : tie.Need-add-done Inv-loop μ-loop
 add-done c =
-    let inside = c .before .before .before .before .before .before .before .before .before .before .before .before .before .before .before .before .before .before .before .before in
+    let inside = c .before .before .before .before .before .before .before .before .before .before .before .before .before .before .before .before .before .before .before .before .before .before .before in
     let start = inside .before .before .before .before .before .before .before .before .before in
     omega (arith, inside .loop-test .taken, start .good .1 .1 .1 .1 .1 .1 .0 .0)
 
 loop-again : tie.Need-loop-again Inv-loop μ-loop
 loop-again c =
     let call = c .before .before .before .before .before .before .before .before .before .before .before .before .before in
-    let at = call .before .before .before .before .before .before .before .before in
+    let told = call .before .before .before .before .before .before .before .before .before in
+    let at = told .before .before in
     let a = at .before .before .before .before .before .before .before .before .args in
     let here = lent (at .loop .list) (at .loop .names) (at .loop .edges) (at .loop .dispatches) (at .loop .bads) in
-    let gave = given (call .lower-next .result) (lent (call .lower-next .last .0) (call .lower-next .last .1 .0) (call .lower-next .last .1 .1 .0) (call .lower-next .last .1 .1 .1 .0) (call .lower-next .last .1 .1 .1 .1 .0)) (call .lower-next .last .1 .1 .1 .1 .1 .0) in
+    let gave = given (call .lower-known .result) (lent (call .lower-known .last .0) (call .lower-known .last .1 .0) (call .lower-known .last .1 .1 .0) (call .lower-known .last .1 .1 .1 .0) (call .lower-known .last .1 .1 .1 .1 .0)) (call .lower-known .last .1 .1 .1 .1 .1 .0) in
     let next = callIn (drop (at .loop .done * 7) (now (a .calls))) in
     let left = callsIn (length (now (a .calls)) / 7 - (at .loop .done + 1)) (drop ((at .loop .done + 1) * 7) (now (a .calls))) in (
       (search needs, search needs, search needs, search needs, search needs, search needs),
       omega arith,
       refl,
-      rw (call .lower-next .kept .1 .1 .1 .1 .1 .0) (at .loop .inv .3),
-      goes-on (a .fits) here (at .loop .state) next gave (call .lower-next .ensures) (at .loop .done) left (c .if1 .left)
+      rw (call .lower-known .kept .1 .1 .1 .1 .1 .0) (at .loop .inv .3),
+      goes-on (a .fits) here (at .loop .state) next gave (rw (← told .call-at .ensures .0, ← told .call-at .ensures .1 .0, ← told .call-at .ensures .1 .1) (call .lower-known .ensures)) (at .loop .done) left (c .if1 .left)
           ∙ ap (wordsOn (a .fits) (at .loop .done) here (at .loop .state)) (sym (calls-next (length (now (a .calls)) / 7) (at .loop .done) (now (a .calls)) (omega arith)))
           ∙ at .loop .inv .4,
     )
@@ -87,7 +93,8 @@ lower-rest-spec =
     Inv-loop
     μ-loop
     loop-holds
-    lower-next-requires
+    call-at-requires
+    lower-known-requires
     (λ c. search needs)
     (λ c. search needs)
     (λ c. search needs)

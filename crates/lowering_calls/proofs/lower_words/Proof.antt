@@ -3,7 +3,8 @@ use denote.Ref.{now}
 use borrow.Author.Needs.{needs}
 use borrow.Author.Tests.{lt-ltb}
 use Rattle.lowering.specs.Lowering.{lent}
-use Rattle.lowering.specs.Words.{stateWords, loweringWords}
+use Rattle.state_words.specs.Words.{stateWords}
+use Rattle.lowering.specs.Words.{loweringWords}
 use Rattle.lowering_calls.proofs.Entries.{one}
 use Rattle.lowering_calls.proofs.lower_words.Statement.{statement}
 use Rattle.lowering_calls.proofs.lower_words.Tie as tie
