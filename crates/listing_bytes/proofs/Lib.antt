@@ -1,4 +1,3 @@
-pub mod Bytes
 pub mod Core
 pub mod Room
 pub mod Text

@@ -12,13 +12,13 @@ use Rattle.listing_line.specs.declared.Parsed.{Parsed}
 use Rattle.listing_line.specs.declared.Parsed.the-variants.{Instruction as Instr, Malformed}
 use Rattle.listing_line.specs.Line.{parseLine}
 use Rattle.listing_start.specs.Start.{startNames, concat, startName, namedStates, startOps, records, startWords, startIn, startState}
-use Rattle.listing_step.specs.Step.{emptied, parsedStep, step}
 use Rattle.riscv.specs.declared.Instruction.{Instruction}
 use Rattle.lowering_refusals.specs.declared.State.{State}
 use Rattle.lowering_refusals.specs.Refusal.{needs, roomOf, roomOut}
 use Rattle.lowering.specs.Lowering.{Lent, Answer, countsAfter, roomIn}
 use Rattle.edges.specs.Edges.{edgeStride}
 use Rattle.edges.specs.Records.{dispatchStride}
+use Rattle.listing_bytes.specs.Step.{emptied, parsedStep, step}
 use Rattle.listing_bytes.specs.Storage.{listingLines, longestName, mostEdges, mostDispatches, startLent}
 use Rattle.listing_bytes.specs.Listing.{steps, reached}
 use Rattle.listing_bytes.specs.Laws.{LinesDecide}

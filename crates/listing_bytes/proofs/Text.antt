@@ -26,11 +26,11 @@ use Rattle.listing_line.specs.declared.Parsed.the-variants.{Instruction as Inst
 use Rattle.listing_line.specs.Line.{parseLine}
 use Rattle.listing_start.specs.Start.{hostArea}
 use Rattle.listing_text.specs.Remarks.{originWord, conditionText, edgeText, dispatchText, refusedText, edgeTextAt, edgesText, dispatchTextAt, dispatchesText}
-use Rattle.listing_step.specs.Step.{emptied, appendedText, answerText, parsedStep, step}
 use Rattle.riscv.specs.declared.Instruction.{Instruction}
 use Rattle.lowering_refusals.specs.declared.State.{State}
 use Rattle.lowering.specs.Lowering.{Lent, Answer, countsAfter}
 use Rattle.lowering_laws.specs.Lines.{numbered}
+use Rattle.listing_bytes.specs.Step.{emptied, appendedText, answerText, parsedStep, step}
 use Rattle.listing_bytes.specs.Storage.{longestName, outRoom}
 use Rattle.listing_bytes.specs.Laws.{TextFits, TextWritten}
 use Rattle.listing_bytes.proofs.Core.{small, oneRow, oneRowEach, Grown, OneCall, stays, grows, one-call}

@@ -14,17 +14,24 @@ use Rattle.bitvec.proofs.Base.{by-le}
 use Rattle.listing_input.specs.Gather.{newlineByte}
 use Rattle.listing_line.specs.Line.{parseLine}
 use Rattle.listing_start.specs.Start.{concat}
-use Rattle.listing_step.specs.Step.{Step, step}
 use Rattle.lowering.specs.Lowering.{Lent}
 use Rattle.lowering_refusals.specs.declared.State.{State}
+use Rattle.listing_bytes.specs.Step.{Step, step}
 use Rattle.listing_bytes.specs.Storage.{lineRoom}
 use Rattle.listing_bytes.specs.Listing.{lastLine, linesFrom, steps, reached, listing}
 use Rattle.listing_bytes.specs.Pieces.{Progress, progress, reading, Told, told, andThen, lineEnded, byteHeld, takeByte, takeBytes, takePieces, inputEnded, start}
-use Rattle.listing_bytes.specs.Laws.{AnyPieces}
-use Rattle.listing_bytes.proofs.Bytes.{two-pieces}
+use Rattle.listing_bytes.specs.Laws.{TwoPieces, AnyPieces}
 use Rattle.listing_bytes.proofs.Room.{zeros}
 
 -- ---- pieces
+
+pub two-pieces : TwoPieces
+unfolding takeBytes
+two-pieces [] b p = refl
+two-pieces (x ∷ a) b p =
+    let t = takeByte x p in
+    ap (λ (u : Told). told (u .progress) (t .text ++ u .text)) (two-pieces a b (t .progress))
+    ∙ ap (told _) (sym (append-assoc (t .text) _ _))
 
 pieces-joined : (pieces : List (List ℕ)) (p : Progress) → takePieces pieces p ≡ takeBytes (concat pieces) p
 unfolding takePieces takeBytes concat

@@ -5,12 +5,12 @@ use mathlib.Core.List.{List, _++_}
 use lib.Dec.{ltb}
 use lib.ListN.{length, take}
 use Rattle.listing_start.specs.Start.{concat}
-use Rattle.listing_step.specs.Step.{emptied, step}
 use Rattle.lowering.specs.Lowering.{Lent, roomIn}
 use Rattle.lowering_refusals.specs.declared.State.{State}
 use Rattle.lowering_refusals.specs.Refusal.{needs, roomOut}
 use Rattle.text.specs.Put.{Put}
 use Rattle.riscv.specs.declared.Instruction.{Instruction}
+use Rattle.listing_bytes.specs.Step.{emptied, step}
 use Rattle.listing_bytes.specs.Storage.{listingLines, outRoom}
 use Rattle.listing_bytes.specs.Listing.{reached, listing}
 use Rattle.listing_bytes.specs.Pieces.{Progress, andThen, takeBytes, takePieces, inputEnded, start}

@@ -1,5 +1,5 @@
+pub mod Step
 pub mod Storage
 pub mod Listing
 pub mod Pieces
-pub mod Reaches
 pub mod Laws

@@ -5,9 +5,9 @@ use mathlib.Core.List.{List, [], _∷_, _++_}
 use lib.Dec.{eqb}
 use Rattle.listing_input.specs.Gather.{newlineByte}
 use Rattle.listing_start.specs.Start.{startState}
-use Rattle.listing_step.specs.Step.{Step, step}
 use Rattle.lowering.specs.Lowering.{Lent}
 use Rattle.lowering_refusals.specs.declared.State.{State}
+use Rattle.listing_bytes.specs.Step.{Step, step}
 use Rattle.listing_bytes.specs.Storage.{startLent}
 
 -- ---- the lines of an input

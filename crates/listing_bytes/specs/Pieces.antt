@@ -3,13 +3,13 @@ use Prim.Native.Nat.{ℕ, _+_, _-_, _%_, _^_, min}
 use mathlib.Core.Bool.{cond}
 use mathlib.Core.List.{List, [], _∷_, _++_}
 use lib.Dec.{eqb}
-use lib.ListN.{take, drop, set, replicate}
-use Rattle.listing_input.specs.Gather.{newlineByte, lineNext}
+use lib.ListN.{take, set, replicate}
+use Rattle.listing_input.specs.Gather.{newlineByte}
 use Rattle.listing_start.specs.Start.{startState}
-use Rattle.listing_step.specs.Step.{step}
 use Rattle.lowering.specs.Lowering.{Lent}
 use Rattle.lowering_refusals.specs.declared.State.{State}
 use Rattle.listing_bytes.specs.declared.Reading.{Reading}
+use Rattle.listing_bytes.specs.Step.{step}
 use Rattle.listing_bytes.specs.Storage.{startLent, lineRoom}
 
 -- what passes on: what is lent for the lowering, the bytes lent for the line that is being read, and how far the reading is
@@ -69,7 +69,3 @@ inputEnded p = cond (eqb (p .reading .held) 0) (told p []) (lineEnded p)
 -- nothing has been read
 unfoldable pub start : Progress
 start = progress startLent (replicate lineRoom 0) (reading startState 1 0)
-
--- of a piece, the bytes from a place on up to a newline, and that newline
-abbrev pub lineOn : List ℕ → ℕ → List ℕ
-lineOn piece from = take (lineNext piece from - from) (drop from piece)

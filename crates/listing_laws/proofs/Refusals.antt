@@ -1,5 +1,5 @@
 -- In every state that the listing reaches, the counts, the roles and the flag are as a call asks. Assumes nothing.
-use Prim.Native.Nat.{ℕ, _+_, _*_, _/_, _^_, _≤_}
+use Prim.Native.Nat.{ℕ, _+_, _*_, _/_, _≤_}
 use mathlib.Core.Path.{_≡_, refl, sym, _∙_, ap}
 use mathlib.Core.Bool.{Bool, true, false, _&&_}
 use mathlib.Core.List.{List, [], _∷_}
@@ -16,6 +16,7 @@ use Rattle.btor2_list.specs.Look.{seen, lookAt}
 use Rattle.btor2_list.proofs.Seen.{look-line}
 use Rattle.btor2_list.proofs.View.{view-length}
 use Rattle.instruction_class.specs.Class.{needsFlag}
+use Rattle.listing_bytes.specs.Step.{emptied, parsedStep, step}
 use Rattle.listing_bytes.specs.Storage.{listingLines, startLent}
 use Rattle.listing_bytes.specs.Listing.{steps, reached}
 use Rattle.listing_bytes.proofs.Room.{Kept, zeros, start-kept, emptied-kept, call-kept, lines-decide}
@@ -24,7 +25,6 @@ use Rattle.listing_line.specs.declared.Parsed.{Parsed}
 use Rattle.listing_line.specs.declared.Parsed.the-variants.{Instruction as Instr, Malformed}
 use Rattle.listing_line.specs.Line.{parseLine}
 use Rattle.listing_start.specs.Start.{firstNid, startLines, placed, startNames, concat, startName, namedStates, startOps, startIn, startState}
-use Rattle.listing_step.specs.Step.{emptied, parsedStep, step}
 use Rattle.lowering_refusals.specs.declared.State.{State}
 use Rattle.lowering_refusals.specs.Refusal.{mostLines, mostNid, roomOf, countsOut, flagOut, refusalGiven, refusalOf}
 use Rattle.lowering.specs.Lowering.{Lent, roomIn, lowering}

@@ -4,10 +4,10 @@ use mathlib.Core.Path.{_≡_}
 use mathlib.Core.Bool.{not}
 use mathlib.Core.List.{List, [], _∷_}
 use lib.Dec.{eqb, ltb}
+use Rattle.listing_bytes.specs.Step.{emptied}
 use Rattle.listing_bytes.specs.Storage.{listingLines}
 use Rattle.listing_bytes.specs.Listing.{reached}
 use Rattle.listing_start.specs.Start.{placed}
-use Rattle.listing_step.specs.Step.{emptied}
 use Rattle.lowering.specs.Lowering.{lowering}
 use Rattle.lowering_refusals.specs.Refusal.{needs}
 use Rattle.riscv.specs.declared.Instruction.{Instruction}

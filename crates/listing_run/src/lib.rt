@@ -1,18 +1,20 @@
 // The listing, as a program runs it: reads an instruction a line, and writes the node lines, edges and dispatches that it is lowered to, or its refusal.
-// Everything but reading and writing is in the library listing_bytes and those below it.
+// What reads and writes is here; lines.rt takes what was read, and is proved to give what listing_bytes defines.
+mod lines;
+
 use libc::STDIN_FILENO;
 use libc::STDOUT_FILENO;
+use lines::end_input;
+use lines::start_reading;
+use lines::take_line;
 use listing_bytes::Reading;
-use listing_bytes::end_input;
-use listing_bytes::start_reading;
-use listing_bytes::take_line;
 ghost use mathlib.Core.Path.{_≡_};
 ghost use mathlib.Core.Bool.{true};
 ghost use lib.ListN.{length};
 ghost use Rattle.lowering.specs.Lowering.{lent};
 ghost use Rattle.listing_bytes.specs.Storage.{outRoom};
 ghost use Rattle.listing_bytes.specs.Pieces.{progress, takeBytes, start};
-ghost use Rattle.listing_bytes.specs.Reaches.{Reaches};
+ghost use Rattle.listing_run.specs.Turn.{Reaches};
 
 // Every line may be a bad one, with the longest name. An instruction has at most two edges and one dispatch.
 const LINES: usize = 1024;

@@ -14,8 +14,8 @@ ghost use Rattle.listing_start.specs.Start.{hostArea, placed};
 ghost use Rattle.listing_text.specs.Remarks.{edgesText, dispatchesText};
 ghost use Rattle.lowering.specs.Lowering.{Lent, lent, answer, lowering};
 ghost use Rattle.text.specs.Put.{Put};
-ghost use Rattle.listing_step.specs.Step.{answerText};
-ghost use Rattle.listing_step.specs.Step.{emptied as Step·emptied, step as Step·step};
+ghost use Rattle.listing_bytes.specs.Step.{answerText};
+ghost use Rattle.listing_bytes.specs.Step.{emptied as Step·emptied, step as Step·step};
 
 // The state after a line, and how many bytes its output has.
 pub struct Stepped {

@@ -4,8 +4,8 @@ use native.Mathlib.Omega.{arith}
 use lib.ListN.{length}
 use Rattle.lowering.specs.Lowering.{lent}
 use Rattle.listing_bytes.specs.Pieces.{progress}
-use Rattle.listing_bytes.specs.Reaches.{Reaches}
-use Rattle.listing_bytes.proofs.Bytes.{here, further}
+use Rattle.listing_run.specs.Turn.{Reaches}
+use Rattle.listing_run.proofs.Bytes.{here, further}
 use Rattle.listing_run.proofs.read_all.Statement.{statement}
 use Rattle.listing_run.proofs.read_all.Tie as tie
 

@@ -1,6 +1,6 @@
 -- Nothing came, or a piece is taken. Assumes nothing.
 use borrow.Author.Needs.{needs}
-use Rattle.listing_bytes.proofs.Bytes.{here}
+use Rattle.listing_run.proofs.Bytes.{here}
 use Rattle.listing_run.proofs.read_piece.Statement.{statement}
 use Rattle.listing_run.proofs.read_piece.Tie as tie
 

@@ -10,8 +10,8 @@ use denote.Ref.{now}
 use borrow.Author.Needs.{needs}
 use Rattle.lowering.specs.Lowering.{lent}
 use Rattle.listing_bytes.specs.Pieces.{progress, takeBytes}
-use Rattle.listing_bytes.proofs.Bytes.{put-within, next-on, next-within, turn, turn-fits}
 use Rattle.listing_bytes.proofs.Text.{text-fits}
+use Rattle.listing_run.proofs.Bytes.{put-within, next-on, next-within, turn, turn-fits}
 use Rattle.listing_run.proofs.take_piece.Statement.{statement}
 use Rattle.listing_run.proofs.take_piece.Tie as tie
 

@@ -2,8 +2,8 @@
 use mathlib.Core.Path.{sym}
 use lib.Seq.{length-take-le}
 use borrow.Author.Needs.{needs}
-use Rattle.listing_bytes.proofs.Bytes.{put-within, end-fits}
 use Rattle.listing_bytes.proofs.Text.{text-fits}
+use Rattle.listing_run.proofs.Bytes.{put-within, end-fits}
 use Rattle.listing_run.proofs.write_last.Statement.{statement}
 use Rattle.listing_run.proofs.write_last.Tie as tie
 

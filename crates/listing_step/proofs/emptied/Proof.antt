@@ -1,6 +1,6 @@
 -- Field by field. Assumes nothing.
 use mathlib.Core.Path.{refl}
-use Rattle.listing_step.specs.Step.{emptied}
+use Rattle.listing_bytes.specs.Step.{emptied}
 use Rattle.listing_step.proofs.emptied.Statement.{statement}
 use Rattle.listing_step.proofs.emptied.Tie as tie
 

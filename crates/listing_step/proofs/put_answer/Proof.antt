@@ -1,6 +1,6 @@
 -- A refusal is said, and else what was appended. Assumes nothing.
 use borrow.Author.Tests.{eq-eqb, ne-eqb}
-use Rattle.listing_step.specs.Step.{appendedText, answerText}
+use Rattle.listing_bytes.specs.Step.{appendedText, answerText}
 use borrow.Author.Needs.{needs}
 use Rattle.listing_step.proofs.put_answer.Statement.{statement}
 use Rattle.listing_step.proofs.put_answer.Tie as tie

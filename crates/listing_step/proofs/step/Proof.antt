@@ -1,7 +1,7 @@
 -- The line's parse says which way is taken. Assumes nothing.
 use mathlib.Core.Path.{refl}
 use borrow.Author.Needs.{needs}
-use Rattle.listing_step.specs.Step.{step}
+use Rattle.listing_bytes.specs.Step.{step}
 use Rattle.listing_step.proofs.step.Statement.{statement}
 use Rattle.listing_step.proofs.step.Tie as tie
 

@@ -2,7 +2,7 @@
 use mathlib.Core.Path.{refl, ap}
 use Rattle.lowering.specs.Lowering.{Answer, lent}
 use Rattle.text.proofs.Laws.{put-as}
-use Rattle.listing_step.specs.Step.{answerText}
+use Rattle.listing_bytes.specs.Step.{answerText}
 use borrow.Author.Needs.{needs}
 use Rattle.listing_step.proofs.step_instruction.Statement.{statement}
 use Rattle.listing_step.proofs.step_instruction.Tie as tie

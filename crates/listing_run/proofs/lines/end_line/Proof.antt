@@ -6,10 +6,10 @@ use lib.ListN.{take}
 use lib.Seq.{length-take-le}
 use denote.Ref.{now}
 use borrow.Author.Needs.{needs}
 use Rattle.listing_bytes.specs.Pieces.{lineEnded}
-use Rattle.listing_bytes.proofs.Bytes.{take-min, same-progress}
-use Rattle.listing_bytes.proofs.end_line.Statement.{statement}
-use Rattle.listing_bytes.proofs.end_line.Tie as tie
+use Rattle.listing_run.proofs.Bytes.{take-min, same-progress}
+use Rattle.listing_run.proofs.lines.end_line.Statement.{statement}
+use Rattle.listing_run.proofs.lines.end_line.Tie as tie
 
 slice-aggregate-step : tie.Need-slice-aggregate-step
 slice-aggregate-step c = let l = c .before .before .before .before .before .before .before .before in sym (length-take-le (l .least .result) (l .before .before .before .before .before .before .before .before .args .line .now) (omega (arith, l .least .ensures)))

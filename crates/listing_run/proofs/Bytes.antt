@@ -1,10 +1,10 @@
--- Bytes taken one after the other: two pieces are one, and a line is gathered at once. Assumes nothing.
+-- Bytes taken one after the other: a line is gathered at once, and a turn takes what comes next of a piece. Assumes nothing.
 use Prim.Native.Nat.{ℕ, suc, _+_, _-_, _^_, _≤_, _<_, min}
 use native.Mathlib.Nat.{min-eq-left}
 use native.Mathlib.Omega.{arith}
 use mathlib.Core.Path.{_≡_, refl, sym, ap, ap₂, _∙_}
 use mathlib.Core.Bool.{Bool, true, false, cond}
-use mathlib.Core.List.{List, [], _∷_, _++_, append-assoc, append-nil}
+use mathlib.Core.List.{List, [], _∷_, _++_, append-nil}
 use lib.Dec.{eqb}
 use lib.ListN.{length, take, drop, length-set, length-drop}
 use lib.Seq.{sets, take-all, take-add}
@@ -16,18 +16,11 @@ use Rattle.lowering.specs.Lowering.{Lent}
 use Rattle.lowering_refusals.specs.declared.State.{State}
 use Rattle.text.specs.Put.{Put}
 use Rattle.text.proofs.Laws.{then, put-length}
 use Rattle.listing_bytes.specs.Storage.{outRoom}
-use Rattle.listing_bytes.specs.Pieces.{Progress, progress, reading, Told, told, andThen, lineEnded, byteHeld, takeByte, takeBytes, inputEnded, lineOn}
-use Rattle.listing_bytes.specs.Reaches.{Reaches}
-use Rattle.listing_bytes.specs.Laws.{TwoPieces, TextFits}
-
-pub two-pieces : TwoPieces
-unfolding takeBytes
-two-pieces [] b p = refl
-two-pieces (x ∷ a) b p =
-    let t = takeByte x p in
-    ap (λ (u : Told). told (u .progress) (t .text ++ u .text)) (two-pieces a b (t .progress))
-    ∙ ap (told _) (sym (append-assoc (t .text) _ _))
+use Rattle.listing_bytes.specs.Pieces.{Progress, progress, reading, Told, told, andThen, lineEnded, byteHeld, takeByte, takeBytes, inputEnded}
+use Rattle.listing_bytes.specs.Laws.{TextFits}
+use Rattle.listing_bytes.proofs.Whole.{two-pieces}
+use Rattle.listing_run.specs.Turn.{lineOn, Reaches}
 
 pub here : (p : Progress) → Reaches p p
 unfolding takeBytes

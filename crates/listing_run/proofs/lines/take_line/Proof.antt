@@ -7,10 +7,10 @@ use denote.Ref.{now}
 use Rattle.lowering.specs.Lowering.{lent}
 use borrow.Author.Needs.{needs}
 use Rattle.text.proofs.Laws.{put-as}
 use Rattle.listing_bytes.specs.Pieces.{progress, Told, lineEnded}
-use Rattle.listing_bytes.proofs.Bytes.{held-is, taken-ended, taken-more}
-use Rattle.listing_bytes.proofs.take_line.Statement.{statement}
-use Rattle.listing_bytes.proofs.take_line.Tie as tie
+use Rattle.listing_run.proofs.Bytes.{held-is, taken-ended, taken-more}
+use Rattle.listing_run.proofs.lines.take_line.Statement.{statement}
+use Rattle.listing_run.proofs.lines.take_line.Tie as tie
 
 returns : tie.Need-returns
 returns c =

@@ -1,8 +1,8 @@
 -- Nothing has been read. Assumes nothing.
 use borrow.Author.Needs.{needs}
 use Rattle.listing_bytes.specs.Pieces.{start}
-use Rattle.listing_bytes.proofs.start_reading.Statement.{statement}
-use Rattle.listing_bytes.proofs.start_reading.Tie as tie
+use Rattle.listing_run.proofs.lines.start_reading.Statement.{statement}
+use Rattle.listing_run.proofs.lines.start_reading.Tie as tie
 
 returns : tie.Need-returns
 unfolding start

@@ -2,9 +2,9 @@
 use mathlib.Core.Path.{refl}
 use borrow.Author.Tests.{eq-eqb, ne-eqb}
 use borrow.Author.Needs.{needs}
 use Rattle.listing_bytes.specs.Pieces.{inputEnded}
-use Rattle.listing_bytes.proofs.end_input.Statement.{statement}
-use Rattle.listing_bytes.proofs.end_input.Tie as tie
+use Rattle.listing_run.proofs.lines.end_input.Statement.{statement}
+use Rattle.listing_run.proofs.lines.end_input.Tie as tie
 
 returns : tie.Need-returns
 unfolding inputEnded
