@@ -373,7 +373,8 @@ def on_firmware(listing, oracle, given, show_all, kept=KEPT):
         if one.hint():
             command.complain(f"{one.name}: {one.hint()}")
     differences = [found for found in differences if found]
-    return verdict(differences, f"{len(differences)} of {firmware.several(runs, 'run')} with a difference; its first is given")
+    number, all_runs = firmware.several(len(differences), "difference"), firmware.several(runs, "run")
+    return verdict(differences, f"{number}, one for each run that differs, of {all_runs}")
 
 
 #
