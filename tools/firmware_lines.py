@@ -139,7 +139,7 @@ LOADED, EXECUTABLE = 1, 0x1  # a segment's type and flag
 RELOCATABLE, RISCV = 1, 243
 HEADER, SEGMENT, SECTION = "<HHIQQQIHHHHHH", "<IIQQQQQQ", "<IIQQQQIIQQ"
 INPUT_LINE = re.compile(rb"[0-9]+ [A-Za-z]+ [0-9]+ [0-9]+ [0-9]+ -?[0-9]+\r?\n")
-CR_LF = "its lines end with CR LF, which the listing refuses with 0 (tr -d '\\r' takes the CR off)"
+CR_LF = "it has lines that end with CR LF, which the listing refuses with 0 (tr -d '\\r' takes the CR off)"
 
 
 class NotFirmware(Exception):

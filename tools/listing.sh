@@ -69,8 +69,10 @@ look_at_input() {
     if [ -s "$work/input" ] && [ "$(tail -c 1 "$work/input" | wc -l)" -eq 0 ]; then
         lines=$((lines + 1)) # the last newline may be missing
     fi
-    if LC_ALL=C grep -q $'\r$' "$work/input"; then
-        say "$given: its lines end with CR LF, which the listing refuses with 0 (tr -d '\\r' takes the CR off)"
+    local returns
+    returns=$(LC_ALL=C grep -a -c $'\r$' "$work/input")
+    if [ "$returns" -ne 0 ]; then
+        say "$given: $returns of $lines lines end with CR LF, which the listing refuses with 0 (tr -d '\\r' takes the CR off)"
     fi
 }
 
