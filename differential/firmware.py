@@ -11,9 +11,8 @@ IN_A_RUN = 10_000  # input lines at most: refused ones and those that append not
 SHOWN = 20  # refused instructions
 APART = {
     "Compressed": "instructions of 16 bits, refused with 1: compile without the C extension (-march=rv64im), libraries too",
-    "Unknown": "words that are no instruction of RV64IM, refused with 1: data among the code, or an extension besides I and M "
-    "(after an instruction of 16 bits also what is read at a wrong place: compile without the C extension)",
-}  # fmt: skip
+    "Unknown": "words that are no instruction of RV64IM, refused with 1: another extension (compile with -march=rv64im), or data among the code",
+}
 
 
 class Firmware:
