@@ -262,6 +262,10 @@ def input_line(n, line):
     return f"input line {n}, {line[:100]!r}"
 
 
+def at_address(_, line):
+    return firmware.instruction(line)
+
+
 def difference(lines, blocks, done, where=input_line):
     """The first place where the output isn't the blocks, or None."""
     got = done.stdout.split(b"\n")
@@ -365,8 +369,7 @@ def on_firmware(listing, oracle, given, show_all, kept=KEPT):
         for run, numbers in firmware.runs(one.lines()):
             account.take(run, numbers)
             name = firmware.file_name(number, one.name, account.runs)
-            where = lambda n, line: firmware.instruction(line)
-            differences.append(compare(listing, oracle, name, run, True, account.counts, whole, kept, where))
+            differences.append(compare(listing, oracle, name, run, True, account.counts, whole, kept, at_address))
         runs += account.runs
         for line in account.text():
             say(line)

@@ -76,8 +76,6 @@ def read(path, status=COULD_NOT_RUN):
 def put(text):
     """Writes to standard output at once, so that an output that takes no more is seen where it happens."""
     try:
-        if sys.stdout is None:
-            raise Failed("standard output is closed")
         sys.stdout.write(text)
         sys.stdout.flush()
     except OSError as error:
@@ -100,12 +98,17 @@ def run(main):
         if stream is not None:
             stream.reconfigure(errors="backslashreplace")  # a file's name may be no text
     try:
+        if sys.stdout is None:  # a file that is opened would take its place, and other programs would write into that
+            raise Failed("standard output is closed")
         status = main()
     except Failed as failure:
         complain(failure)
         status = failure.status
     except OSError as error:
         complain(f"{error.filename}: {error.strerror}" if error.filename else str(error))
+        status = COULD_NOT_RUN
+    except MemoryError:
+        complain("there is not enough memory")
         status = COULD_NOT_RUN
     except KeyboardInterrupt:
         complain("interrupted")

@@ -230,7 +230,6 @@ def main():
     if overlap(parts):
         command.complain(f"{name}: {overlap(parts)}")
     rest = (line + "\n" for address, code in parts for line in lines(code, address))
-    command.put("")  # where there is no line, an output that is closed is seen all the same
     while some := "".join(itertools.islice(rest, IN_A_WRITE)):
         command.put(some)
     return 0

@@ -154,7 +154,7 @@ account() {
 
 { : 3>&1; } 2>/dev/null || fail "standard output is closed"
 arguments "$@"
-work=$(mktemp -d) || fail "no folder for a copy of the input can be made"
+work=$(mktemp -d 2>/dev/null) || fail "no folder for a copy of the input can be made"
 trap 'rm -rf "$work"' EXIT
 trap 'exit 2' HUP INT TERM
 copy_input

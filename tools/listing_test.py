@@ -234,6 +234,9 @@ def proof_tests(tree):
     (one.root / "target").write_text("")
     sentence(one.run(stdin=None, input=EXAMPLE), "target is a file")
     one = tree(EXAMPLE_LISTED)
+    os.environ["TMPDIR"] = str(one.root / "missing")
+    sentence(one.run(stdin=None, input=EXAMPLE), "no folder for a copy")
+    del os.environ["TMPDIR"]
     (one.root / "tools" / "refusals.txt").unlink()
     sentence(one.run(stdin=None, input=EXAMPLE), "no table of refusals")
 
