@@ -1,29 +1,39 @@
 #!/usr/bin/env python3
-"""compare.py [--listing PROGRAM] [--cases PROGRAM] [--source FOLDER] [--seeds A B] [--lines N]: the lowering against the unchanged Rust.
+"""The lowering against the unchanged Rust.
 
-Builds the oracle (README.md) from FOLDER (default as build.sh's: ../shared/docs/src beside the repository), gives generated inputs to
-PROGRAM (default: target/bin/listing of the repository) and compares all that it writes, byte by byte, with
+    compare.py [--listing PROGRAM] [--source FOLDER] [--raw --base ADDRESS] [--all-refused] FIRMWARE...    on given firmware
+    compare.py [--listing PROGRAM] [--source FOLDER] [--cases PROGRAM] [--seeds A B] [--lines N]           on generated inputs
+
+Builds the oracle (README.md) from FOLDER (default as build.sh's: ../shared/docs/src beside the repository), gives inputs to PROGRAM
+(default: target/bin/listing of the repository) and compares all that it writes, byte by byte, with
 
 - what the Rust prints, for the lines that are accepted: node lines, edges, dispatches. Flows show in the node lines that follow: most
-  inputs end with lines that name every flow;
+  generated inputs end with lines that name every flow;
 - `; refused LINE NUMBER` for the others. Which are refused, and with what number, is tools/refusal.py's reading of document 01, with the
   listing's 1,024 lines. Where the Rust panics or has no such record, the oracle must say so too (negative shift amounts apart, which the
   Rust lowers), and its node lines must be as many as document 01's table says.
 
-The inputs: generate.py's sweep (every kind, each field at each boundary, malformed lines of every sort), the list filled so that each kind
-has just enough room and one line too few, odd ends and sizes of input, and for each seed from A to B (1 to 40) N (60) mixed lines and a
-list that fills up.
+FIRMWARE is an RV64 ELF file, an image of code that is loaded at ADDRESS (--raw --base ADDRESS), or a file of input lines, of any size; `-`
+is standard input. It is cut into runs: a run ends before the instruction that the listing would refuse with 8, because its 1,024 lines are
+full, and after 10,000 instructions; each run has a listing and a Rust of its own. For each FIRMWARE it prints the numbers of instructions,
+runs and lines, counts by kind, what was refused, by number and words and, for the first 20 (--all-refused: for all), by address and
+instruction, and apart from these how many were `Compressed` or `Unknown`, which tools/firmware_lines.py makes of what it can't decode.
+
+The generated inputs: generate.py's sweep (every kind, each field at each boundary, malformed lines of every sort), the list filled so that
+each kind has just enough room and one line too few, odd ends and sizes of input, and for each seed from A to B (1 to 40) N (60) mixed lines
+and a list that fills up.
 
 The listing has one start, on which x0's node is the zero word and flows are nodes. So the lowering is compared from the oracle's start apart
-too, where no two roles are one line: --cases (default: target/bin/lowering_cases of the repository) is handed that start and, for each seed,
-N mixed lines. What it writes, the numbers of records, edges, dispatches, bads, counts and all flows after each call, must be what
-tools/lowering_cases.py makes of the Rust's text.
+too, on generated inputs, where no two roles are one line: --cases (default: target/bin/lowering_cases of the repository) is handed that
+start and, for each seed, N mixed lines. What it writes, the numbers of records, edges, dispatches, bads, counts and all flows after each
+call, must be what tools/lowering_cases.py makes of the Rust's text. On generated inputs it prints counts for each kind and refusal.
 
-Prints counts for each kind and refusal, then 'no difference' or the differences, whose inputs it keeps in target/differences here. Exit
-status: 0 no difference, 1 differences, 2 it could not be run.
+The last line is 'no difference', or how many there are, after the first 10 of them; their inputs are kept in target/differences here. Of a
+run or input the first line that differs is given. Exit status: 0 no difference (an instruction that both refuse is none), 1 differences, 2 it
+could not be run, or its output can't be written.
 """
-import argparse
 import collections
+import os
 import pathlib
 import random
 import subprocess
@@ -33,6 +43,8 @@ import time
 HERE = pathlib.Path(__file__).resolve().parent
 sys.path[:0] = [str(HERE), str(HERE.parent / "tools")]
 
+import command
+import firmware
 import generate
 import lowering_cases
 import refusal
@@ -52,7 +64,10 @@ class Oracle:
 
     def run(self, lines):
         text = b"".join(line + b"\n" for line in lines)
-        return subprocess.run([self.program], input=text, stdout=subprocess.PIPE, check=True).stdout.decode().splitlines()
+        done = subprocess.run([self.program], input=text, stdout=subprocess.PIPE)
+        if done.returncode:
+            raise command.Failed(f"the oracle, {self.program}, failed: its exit status is {done.returncode}")
+        return done.stdout.decode().splitlines()
 
     def blocks(self, accepted):
         """What the Rust prints for each of these lines. An empty line, answered `; malformed`, parts them."""
@@ -89,7 +104,9 @@ def expected(lines, oracle, counts):
                 refused.append((line, oracle_says(number)))
             yield [f"; refused {n} {number}"]
             continue
-        block = next(blocks)
+        block = next(blocks, None)
+        if block is None:
+            raise Disagree(f"the oracle's answers end before that of {line.decode()!r}")
         _, kind, rd, rs1, _, imm = record
         nodes = sum(not text.startswith(";") for text in block)
         if nodes != refusal.appended(kind, rd, rs1, imm) or set(block) & {"; panic", "; unencodable"}:
@@ -99,7 +116,7 @@ def expected(lines, oracle, counts):
         counts["edges"] += sum(text.startswith("; in ") for text in block)
         counts["dispatches"] += sum(text.startswith("; dyn ") for text in block)
         yield block
-    answers = oracle.run([line for line, _ in refused])
+    answers = oracle.run([line for line, _ in refused]) if refused else []
     for (line, wanted), answer in zip(refused, answers):
         if answer != wanted:
             raise Disagree(f"the oracle answers {line!r} with {answer!r} where document 01 gives {wanted!r}")
@@ -241,23 +258,31 @@ def in_pieces(program, text):
     return subprocess.CompletedProcess(program, process.returncode, out)
 
 
-def difference(lines, blocks, done):
+def input_line(n, line):
+    return f"input line {n}, {line[:100]!r}"
+
+
+def at_address(_, line):
+    return firmware.instruction(line)
+
+
+def difference(lines, blocks, done, where=input_line):
     """The first place where the output isn't the blocks, or None."""
     got = done.stdout.split(b"\n")
     wanted = [(n, text) for n, block in enumerate(blocks, 1) for text in block]
     for place, (n, text) in enumerate(wanted):
         if place + 1 >= len(got) or got[place] != text.encode():
             found = repr(got[place]) + ("" if place + 1 < len(got) else ", without a newline") if place < len(got) else "nothing"
-            return f"input line {n}, {lines[n - 1][:100]!r}: expected {text!r}, got {found}"
+            return f"{where(n, lines[n - 1])}: expected {text!r}, got {found}"
     if got[len(wanted) :] != [b""]:
         return f"after the last expected line: {got[len(wanted):][:3]}"
     return f"exit status {done.returncode}" if done.returncode else None
 
 
-def compare(program, oracle, name, lines, newline, counts, run, kept=KEPT):
+def compare(program, oracle, name, lines, newline, counts, run, kept=KEPT, where=input_line):
     """What differs for this input, which then is kept, or None."""
     text = joined(lines, newline)
-    return kept_where_found(name, text, kept, lambda: difference(lines, list(expected(lines, oracle, counts)), run(program, text)))
+    return kept_where_found(name, text, kept, lambda: difference(lines, list(expected(lines, oracle, counts)), run(program, text), where))
 
 
 def compare_apart(program, name, instructions, counts, kept=KEPT):
@@ -281,65 +306,132 @@ def kept_where_found(name, text, kept, find):
         found = "no end after 120 seconds"
     except BrokenPipeError:
         found = "it ended before its input did"
-    if found:
+    return f"{name}: {found}\n    input: {keep(name, text, kept)}" if found else None
+
+
+def keep(name, text, kept):
+    """Where the input is kept, or why it is not: a difference is told in any case."""
+    path = kept / (name.replace(" ", "-").replace(",", "") + ".txt")
+    try:
         kept.mkdir(parents=True, exist_ok=True)
-        path = kept / (name.replace(" ", "-").replace(",", "") + ".txt")
         path.write_bytes(text)
-        return f"{name}: {found}\n    input: {path}"
-    return None
+    except OSError as error:
+        return f"not kept, {path}: {error.strerror}"
+    return path
 
 
 def summary(counts, inputs_run):
-    print(f"{inputs_run} inputs: {counts['node lines']} node lines, {counts['edges']} edges, {counts['dispatches']} dispatches")
-    print("accepted:", ", ".join(f"{kind} {counts['accepted', kind]}" for kind in refusal.KINDS))
-    print("refused:", ", ".join(f"with {number} {counts['refused', number]}" for number in (0, 1, 2, 3, 4, 5, 6, 8)))
+    say(f"{inputs_run} inputs: {counts['node lines']} node lines, {counts['edges']} edges, {counts['dispatches']} dispatches")
+    say("accepted: " + ", ".join(f"{kind} {counts['accepted', kind]}" for kind in refusal.KINDS))
+    say("refused: " + ", ".join(f"with {number} {counts['refused', number]}" for number in refusal.WORDS))
     kinds = sorted(counts["apart", kind] for kind in refusal.KINDS)
-    print(f"from the start apart: {sum(kinds)} lowered, each kind {kinds[0]} to {kinds[-1]} times, {counts['apart', 'refused']} refused, "
-          f"{counts['apart lines']} node lines")
+    say(f"from the start apart: {sum(kinds)} lowered, each kind {kinds[0]} to {kinds[-1]} times, {counts['apart', 'refused']} refused, "
+        f"{counts['apart lines']} node lines")  # fmt: skip
     missing = [kind for kind in refusal.KINDS if not counts["accepted", kind]]
     missing += [f"{kind} from the start apart" for kind in refusal.KINDS if not counts["apart", kind]]
-    missing += [number for number in (0, 1, 2, 3, 4, 5, 6, 8) if not counts["refused", number]]
+    missing += [number for number in refusal.WORDS if not counts["refused", number]]
     return [f"not reached by any input: {missing}"] if missing else []
 
 
-def arguments():
-    parser = argparse.ArgumentParser(description="The listing program against the unchanged Rust.")
-    parser.add_argument("--listing", default=HERE.parent / "target" / "bin" / "listing", type=pathlib.Path)
-    parser.add_argument("--cases", default=HERE.parent / "target" / "bin" / "lowering_cases", type=pathlib.Path)
-    parser.add_argument("--source", type=pathlib.Path)
-    parser.add_argument("--seeds", nargs=2, default=(1, 40), type=int, metavar=("A", "B"))
-    parser.add_argument("--lines", default=60, type=int)
-    return parser.parse_args()
+def say(line):
+    command.put(line + "\n")
 
 
-def main():
-    chosen = arguments()
-    if subprocess.run([HERE / "build.sh"] + ([chosen.source] if chosen.source else [])).returncode:
-        return 2
-    listing, cases = chosen.listing.resolve(), chosen.cases.resolve()
-    for program in listing, cases:
-        if not program.is_file():
-            print(f"compare.py: {program} is missing", file=sys.stderr)
-            return 2
-    oracle = Oracle(HERE / "target" / "oracle")
+def verdict(differences, counted):
+    """The last lines and the exit status."""
+    if not differences:
+        say("no difference")
+        return 0
+    for found in differences[:SHOWN]:
+        say(found)
+    say(counted)
+    return 1
+
+
+def on_generated(listing, cases, oracle, seeds, lines_each):
     counts, differences, run = collections.Counter(), [], 0
-    for name, lines, newline in inputs(*chosen.seeds, chosen.lines):
+    for name, lines, newline in inputs(*seeds, lines_each):
         differences.append(compare(listing, oracle, name, lines, newline, counts, whole))
         run += 1
     rng = random.Random("pieces")
     pieces = [generate.any_line(rng) for _ in range(100)]
     differences.append(compare(listing, oracle, "in small pieces", pieces, False, counts, in_pieces))
-    for name, instructions in apart_inputs(*chosen.seeds, chosen.lines):
+    for name, instructions in apart_inputs(*seeds, lines_each):
         differences.append(compare_apart(cases, name, instructions, counts))
     differences = [found for found in differences if found] + summary(counts, run + 1)
-    if not differences:
-        print("no difference")
-        return 0
-    for found in differences[:SHOWN]:
-        print(found)
-    print(f"{len(differences)} differences")
-    return 1
+    return verdict(differences, f"{len(differences)} differences")
+
+
+def on_firmware(listing, oracle, given, show_all, kept=KEPT):
+    differences, runs = [], 0
+    for number, one in enumerate(given, 1):
+        account = firmware.Account(one.name, show_all)
+        for run, numbers in firmware.runs(one.lines()):
+            account.take(run, numbers)
+            name = firmware.file_name(number, one.name, account.runs)
+            differences.append(compare(listing, oracle, name, run, True, account.counts, whole, kept, at_address))
+        runs += account.runs
+        for line in account.text():
+            say(line)
+        if one.hint():
+            command.complain(f"{one.name}: {one.hint()}")
+    differences = [found for found in differences if found]
+    number, all_runs = firmware.several(len(differences), "difference"), firmware.several(runs, "run")
+    return verdict(differences, f"{number}, one for each run that differs, of {all_runs}")
+
+
+#
+# The command
+#
+
+FOR_FIRMWARE = ("raw", "base", "all_refused")
+FOR_GENERATED = ("cases", "seeds", "lines")
+
+
+def arguments():
+    parser = command.Parser(description="The listing program against the unchanged Rust, on given firmware or on generated inputs.")
+    parser.add_argument("firmware", nargs="*", metavar="FIRMWARE", help="an RV64 ELF file, an image or a file of input lines; - is standard input")
+    parser.add_argument("--listing", default=HERE.parent / "target" / "bin" / "listing", type=pathlib.Path, metavar="PROGRAM")
+    parser.add_argument("--source", type=pathlib.Path, metavar="FOLDER", help="where the Rust is (default: ../shared/docs/src beside the repository)")
+    parser.add_argument("--raw", action="store_true", default=None, help="FIRMWARE is an image of code")
+    parser.add_argument("--base", type=command.address, metavar="ADDRESS", help="where an image is loaded")
+    parser.add_argument("--all-refused", action="store_true", default=None, help="show every instruction that is refused")
+    parser.add_argument("--cases", type=pathlib.Path, metavar="PROGRAM", help="default: target/bin/lowering_cases")
+    parser.add_argument("--seeds", nargs=2, type=int, metavar=("A", "B"), help="default: 1 40")
+    parser.add_argument("--lines", type=command.count, metavar="N", help="default: 60")
+    chosen = parser.parse_args()
+    others, mode = (FOR_GENERATED, "on given firmware") if chosen.firmware else (FOR_FIRMWARE, "without FIRMWARE")
+    wrong = ["--" + name.replace("_", "-") for name in others if getattr(chosen, name) is not None]
+    if wrong:
+        parser.error(f"{', '.join(wrong)} can't be used {mode}")
+    if bool(chosen.raw) != (chosen.base is not None):
+        parser.error("--raw and --base ADDRESS go together")
+    return chosen
+
+
+def found_program(path, made_by):
+    if not path.is_file():
+        raise command.Failed(f"{path} is missing: {made_by} makes it")
+    if not os.access(path, os.X_OK):
+        raise command.Failed(f"{path} can't be run: it is not executable")
+    return path.resolve()
+
+
+def main():
+    chosen = arguments()
+    given = [firmware.Firmware(path, chosen.base) for path in chosen.firmware]
+    listing = found_program(chosen.listing, "tools/listing.sh")
+    cases = None if given else found_program(chosen.cases or HERE.parent / "target" / "bin" / "lowering_cases", "rt check lowering_cases")
+    if subprocess.run([HERE / "build.sh"] + ([chosen.source] if chosen.source else [])).returncode:
+        raise command.Failed("the oracle was not built")
+    oracle = Oracle(HERE / "target" / "oracle")
+    try:
+        if given:
+            return on_firmware(listing, oracle, given, bool(chosen.all_refused))
+        return on_generated(listing, cases, oracle, chosen.seeds or (1, 40), 60 if chosen.lines is None else chosen.lines)
+    except subprocess.CalledProcessError as error:
+        raise command.Failed(f"the oracle failed: {error}") from None
 
 
 if __name__ == "__main__":
-    sys.exit(main())
+    command.run(main)

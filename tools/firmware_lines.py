@@ -4,11 +4,12 @@
     tools/firmware_lines.py FILE                        an RV64 ELF file, linked, little-endian
     tools/firmware_lines.py FILE --raw --base ADDRESS   an image of code alone that is loaded at ADDRESS (decimal, or hexadecimal after 0x)
 
-Prints a line for each instruction, `address kind rd rs1 rs2 imm`, in the order of addresses, so that
+FILE is standard input where it is `-`. Prints a line for each instruction, `address kind rd rs1 rs2 imm`, in the order of addresses, so that
 
-    tools/firmware_lines.py firmware.elf | target/bin/listing
+    tools/firmware_lines.py firmware.elf | tools/listing.sh
 
-lists the BTOR2 lines of the firmware. The listing holds 1,024 lines: longer firmware goes in parts (`| sed -n 1,60p |`).
+lists the BTOR2 lines of the firmware. The listing holds 1,024 lines: longer firmware goes in parts (`| sed -n 1,60p |`), and
+differential/compare.py takes it whole.
 
 - Of an ELF file the executable sections are taken; of one without sections the executable segments, whose data then reads as code.
 - The numbers are decimal. Fields that a kind doesn't use are 0. imm is the signed immediate; for Lui and Auipc the field of 20 bits, 0 to
@@ -17,12 +18,15 @@ lists the BTOR2 lines of the firmware. The listing holds 1,024 lines: longer fir
   rest of RV64IM, Fence, FenceI, Ebreak and the CSR instructions under their names, `Compressed` for an instruction of 16 bits, `Unknown`
   for every other encoding, reserved ones and data among them (longer ones go in steps of 4 bytes), and for what is cut short at the end.
 
-The decoder is written from the RISC-V Unprivileged ISA (RV32/64G Instruction Set Listings) and needs no other tool. A file that is not what
-it should be is an error, with exit status 1 and no line printed. Test: tools/firmware_lines_test.py.
+The decoder is written from the RISC-V Unprivileged ISA (RV32/64G Instruction Set Listings) and needs no other tool. Whatever is wrong is
+one sentence on standard error: a file that is not what it should be or can't be read gives exit status 1 and no line, a wrong option or an
+output that can't be written 2. Sections that overlap are listed one after the other, with a sentence. Test: tools/firmware_lines_test.py.
 """
-import argparse
+import itertools
+import re
 import struct
-import sys
+
+import command
 
 #
 # The decoder
@@ -111,8 +115,6 @@ def decode(word):
 
 def lines(code, address):
     """The input lines of the code that is loaded at this address."""
-    if address + len(code) > 2**64:
-        sys.exit(f"firmware_lines.py: {len(code)} bytes at {address} pass the end of memory")
     place = 0
     while place < len(code):
         size = 4 if code[place] & 3 == 3 else 2
@@ -128,61 +130,110 @@ def lines(code, address):
 
 
 #
-# The ELF file
+# The file
 #
 
+ELF, ELF_64_LITTLE = b"\x7fELF", b"\x7fELF\x02\x01"
 PROGBITS, ALLOCATED_CODE = 1, 0x2 | 0x4  # a section's type and flags
 LOADED, EXECUTABLE = 1, 0x1  # a segment's type and flag
 RELOCATABLE, RISCV = 1, 243
+HEADER, SEGMENT, SECTION = "<HHIQQQIHHHHHH", "<IIQQQQQQ", "<IIQQQQIIQQ"
+INPUT_LINE = re.compile(rb"[0-9]+ [A-Za-z]+ [0-9]+ [0-9]+ [0-9]+ -?[0-9]+\r?\n")
+CR_LF = "it has lines that end with CR LF, which the listing refuses with 0 (tr -d '\\r' takes the CR off)"
+
+
+class NotFirmware(Exception):
+    """What is wrong with a file, as the end of a sentence about it."""
 
 
 def entries(file, form, offset, size, count):
+    """The rows of a table of the ELF file."""
     if count and size != struct.calcsize(form):
-        sys.exit("firmware_lines.py: a header of an unknown size")
+        raise NotFirmware("the ELF file has a table of an unknown kind: its rows are not of the size of ELF's")
+    if count and offset + count * size > len(file):
+        raise NotFirmware("the ELF file is cut short")
     return [struct.unpack_from(form, file, offset + n * size) for n in range(count)]
 
 
+def not_elf(file):
+    """Why a file is not taken for an ELF file, with what it may be."""
+    if INPUT_LINE.match(file):
+        lines_already = "not an ELF file: it has input lines already, which tools/listing.sh and differential/compare.py take as they are"
+        return lines_already + ("; and " + CR_LF if b"\r\n" in file else "")
+    if file[:4] == ELF:
+        return "an ELF file, but not of 64 bits and little-endian"
+    return "not an ELF file of 64 bits, little-endian (for an image: --raw --base ADDRESS)" + ("; " + CR_LF if b"\r\n" in file[:4096] else "")
+
+
 def executable_parts(file):
-    """Pairs of an address and the code there."""
-    if file[:6] != b"\x7fELF\x02\x01":
-        sys.exit("firmware_lines.py: not an ELF file of 64 bits, little-endian (for an image: --raw --base ADDRESS)")
-    try:
-        kind, machine, _, _, segments_at, sections_at, _, _, *counts = struct.unpack_from("<HHIQQQIHHHHHH", file, 16)
-        segments = entries(file, "<IIQQQQQQ", segments_at, *counts[:2])
-        sections = entries(file, "<IIQQQQIIQQ", sections_at, *counts[2:4])
-    except struct.error:
-        sys.exit("firmware_lines.py: the ELF file is cut short")
+    """Address, offset in the file and size of each part that has code."""
+    if file[:6] != ELF_64_LITTLE:
+        raise NotFirmware(not_elf(file))
+    if len(file) < 16 + struct.calcsize(HEADER):
+        raise NotFirmware("the ELF file is cut short")
+    kind, machine, _, _, segments_at, sections_at, _, _, *counts = struct.unpack_from(HEADER, file, 16)
     if machine != RISCV:
-        sys.exit(f"firmware_lines.py: machine {machine} is not RISC-V")
+        raise NotFirmware(f"machine {machine} is not RISC-V")
+    segments = entries(file, SEGMENT, segments_at, *counts[:2])
+    sections = entries(file, SECTION, sections_at, *counts[2:4])
     if kind == RELOCATABLE:
-        sys.exit("firmware_lines.py: the file is not linked: its addresses are not known")
+        raise NotFirmware("the file is not linked: its addresses are not known")
     if sections:
-        parts = [s[3:6] for s in sections if s[1] == PROGBITS and s[2] & ALLOCATED_CODE == ALLOCATED_CODE]
-    else:
-        parts = [(s[3], s[2], s[5]) for s in segments if s[0] == LOADED and s[1] & EXECUTABLE]
-    for address, offset, size in sorted(parts):
+        return sorted(s[3:6] for s in sections if s[1] == PROGBITS and s[2] & ALLOCATED_CODE == ALLOCATED_CODE)
+    return sorted((s[3], s[2], s[5]) for s in segments if s[0] == LOADED and s[1] & EXECUTABLE)
+
+
+def code_of(file, base=None):
+    """Pairs of an address and the code there: of an image that is loaded at a base, else of an ELF file. What is wrong is found here."""
+    found = executable_parts(file) if base is None else [(base, 0, len(file))]
+    for address, offset, size in found:
         if offset + size > len(file):
-            sys.exit("firmware_lines.py: the ELF file is cut short")
-        yield address, file[offset : offset + size]
+            raise NotFirmware("the ELF file is cut short")
+        if address + size > 2**64:
+            raise NotFirmware(f"{size} bytes at {address} pass the end of memory")
+    # Parts may overlap, but a file of a few bytes must not give lines without end.
+    if sum(size for _, _, size in found) > len(file):
+        raise NotFirmware("the parts of the ELF file that have code are longer together than the file")
+    return [(address, file[offset : offset + size]) for address, offset, size in found]
+
+
+def overlap(parts):
+    """A sentence where a part begins before one before it ends, or None."""
+    end, found = 0, []
+    for address, code in parts:
+        if code and address < end:
+            found.append(address)
+        end = max(end, address + len(code))
+    if not found:
+        return None
+    others = f", and so does that at {len(found) - 1} more addresses" if len(found) > 1 else ""
+    return f"the code at {found[0]} overlaps code before it{others}: what overlaps is listed more than once"
+
+
+IN_A_WRITE = 10_000  # lines
 
 
 def main():
-    parser = argparse.ArgumentParser(description="Firmware as input lines of the listing program.")
-    parser.add_argument("file")
+    parser = command.Parser(description="Firmware as input lines of the listing program.")
+    parser.add_argument("file", help="an RV64 ELF file, linked; - is standard input")
     parser.add_argument("--raw", action="store_true", help="FILE is an image of code")
-    parser.add_argument("--base", type=lambda text: int(text, 0), help="where an image is loaded")
+    parser.add_argument("--base", type=command.address, metavar="ADDRESS", help="where an image is loaded")
     chosen = parser.parse_args()
-    if chosen.raw != (chosen.base is not None) or chosen.raw and not 0 <= chosen.base < 2**64:
+    if chosen.raw != (chosen.base is not None):
         parser.error("--raw and --base ADDRESS go together")
+    name = "standard input" if chosen.file == "-" else chosen.file
+    file = command.read(chosen.file, status=1)
     try:
-        with open(chosen.file, "rb") as opened:
-            file = opened.read()
-    except OSError as error:
-        sys.exit(f"firmware_lines.py: {error}")
-    parts = [(chosen.base, file)] if chosen.raw else executable_parts(file)
-    out = [line for address, code in parts for line in lines(code, address)]
-    sys.stdout.write("".join(line + "\n" for line in out))
+        parts = code_of(file, chosen.base)
+    except NotFirmware as reason:
+        raise command.Failed(f"{name}: {reason}", 1) from None
+    if overlap(parts):
+        command.complain(f"{name}: {overlap(parts)}")
+    rest = (line + "\n" for address, code in parts for line in lines(code, address))
+    while some := "".join(itertools.islice(rest, IN_A_WRITE)):
+        command.put(some)
+    return 0
 
 
 if __name__ == "__main__":
-    main()
+    command.run(main)

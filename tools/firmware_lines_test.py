@@ -1,13 +1,16 @@
 #!/usr/bin/env python3
-"""Tests of tools/firmware_lines.py, and the making of samples/. Run it from anywhere; its last line says how many tests passed.
+"""Tests of tools/firmware_lines.py, and the making of samples/firmware.*. Run it from anywhere; its last line says how many tests passed.
 
-    tools/firmware_lines_test.py              the tests; samples/ must be what they make
+    tools/firmware_lines_test.py              the tests; samples/firmware.* must be what they make
     tools/firmware_lines_test.py --samples    writes samples/firmware.bin, assembled below, and samples/firmware.txt, its lines
 
 The words of WORDS were taken once from LLVM's assembler, for the text after `#`, and each line was written by hand after that text.
 `encode` puts a line's fields where the RISC-V manual's formats have them, for the sample; it must give the same words.
 """
+import collections
+import os
 import pathlib
+import random
 import struct
 import subprocess
 import sys
@@ -276,13 +279,23 @@ def test(name, got, wanted):
         print(f"{name}\n  got    {got}\n  wanted {wanted}")
 
 
+def called(*arguments, **words):
+    """The script's exit status, output and standard error. What it is given may not bring it to a traceback, or to more than one sentence."""
+    words = {"stdin": subprocess.DEVNULL, "stdout": subprocess.PIPE} | words
+    done = subprocess.run([sys.executable, HERE / "firmware_lines.py", *arguments], stderr=subprocess.PIPE, **words)
+    said = done.stderr.decode()
+    if done.returncode and (said.count("\n") != 1 or not said.startswith("firmware_lines.py: ")):
+        test(f"one sentence for {arguments}", said, "one sentence")
+    return done.returncode, (done.stdout or b"").decode(), said
+
+
 def run(file, *arguments):
     """What the script prints for a file of these bytes; its message where it fails."""
     with tempfile.TemporaryDirectory() as folder:
         path = pathlib.Path(folder) / "file"
         path.write_bytes(file)
-        done = subprocess.run([sys.executable, HERE / "firmware_lines.py", path, *arguments], capture_output=True, text=True)
-    return done.stdout.splitlines() if done.returncode == 0 else (done.returncode, done.stdout, done.stderr.strip().rsplit(": ", 1)[-1])
+        status, out, said = called(path, *arguments)
+    return out.splitlines() if status == 0 else (status, out, said.strip().rsplit(": ", 1)[-1])
 
 
 def word_tests():
@@ -331,6 +344,108 @@ def elf_tests(image, lines):
         test(f"cut to {length} bytes", run(whole[:length]), (1, "", "the ELF file is cut short"))
     beyond = elf([(1, 6, BASE, image)]).replace(struct.pack("<Q", len(image)), struct.pack("<Q", 2**63))
     test("a section beyond the file", run(beyond), (1, "", "the ELF file is cut short"))
+    overlapping = elf([code, (1, 6, BASE + 4, image[4:8])])
+    test("sections that overlap", run(overlapping), lines + [lines[1]])
+    test("many sections over one part of the file", run(folded(image))[:2], (1, ""))
+    test("the end of memory", run(elf([(1, 6, 2**64 - 4, image)]))[:2], (1, ""))
+
+
+def folded(image):
+    """An ELF file of which every section is the whole file, so that it would be listed a thousand times."""
+    file = bytearray(elf([(1, 6, BASE, image)] * 1000))
+    sections_at = struct.unpack_from("<Q", file, 40)[0]
+    for n in range(1, 1001):
+        struct.pack_into("<QQ", file, sections_at + 64 * n + 24, 0, len(file))
+    return bytes(file)
+
+
+# Fields of an ELF file that lead out of it: their place and width, where the sections' table begins at S and the segments' at P.
+FIELDS = {
+    "type": (16, 2), "machine": (18, 2), "segments' offset": (32, 8), "sections' offset": (40, 8), "segment size": (54, 2), "segments": (56, 2),
+    "section size": (58, 2), "sections": (60, 2), "a section's type": ("S", 4, 4), "its flags": ("S", 8, 8), "its address": ("S", 16, 8),
+    "its offset": ("S", 24, 8), "its size": ("S", 32, 8), "a segment's offset": ("P", 8, 8), "its length": ("P", 32, 8),
+}  # fmt: skip
+
+
+def field_tests(image):
+    """Every field at values that no file has, as a sentence or as lines; and fields of any value."""
+    code, segment = (1, 6, BASE, image), (1, 5, BASE, image)
+    for shape, whole in (("sections", elf([code, code], [segment])), ("segments", elf([], [segment, segment]))):
+        tables = {"P": struct.unpack_from("<Q", whole, 32)[0], "S": struct.unpack_from("<Q", whole, 40)[0] + 64}
+        for name, (*place, width) in FIELDS.items():
+            at = place[0] if len(place) == 1 else tables[place[0]] + place[1]
+            if at + width > len(whole):
+                continue  # without sections there is no section's field
+            for value in (0, 1, 2 ** (8 * width - 1), 2 ** (8 * width) - 1):
+                file = bytearray(whole)
+                file[at : at + width] = value.to_bytes(width, "little")
+                found = run(bytes(file))
+                test(f"{shape}, {name} {value}", isinstance(found, list) or found[:2] == (1, ""), True)
+    rng = random.Random("fields")
+    whole = elf([code, code], [segment])
+    outcomes = collections.Counter()
+    for _ in range(3000):
+        file = bytearray(whole[: rng.choice((len(whole), len(whole), rng.randrange(len(whole))))])
+        for _ in range(rng.randrange(1, 6)):
+            at = rng.choice((rng.randrange(len(file) or 1), rng.randrange(16, 64), len(file) - rng.randrange(1, 193)))
+            if 0 <= at < len(file):
+                file[at] = rng.choice((0, 1, 127, 128, 255, rng.randrange(256)))
+        try:
+            outcomes["code"] += bool(firmware_lines.code_of(bytes(file)))
+        except firmware_lines.NotFirmware:
+            outcomes["a sentence"] += 1
+    test("fields of any value", outcomes["code"] > 0 and outcomes["a sentence"] > 0, True)
+
+
+def command_tests(image, lines):
+    """Options, standard input, files that are no firmware, outputs that take nothing."""
+    sample, base = SAMPLES / "firmware.bin", ("--raw", "--base", str(BASE))
+    text = "".join(line + "\n" for line in lines)
+    test("standard input", called("-", *base, input=image, stdin=None), (0, text, ""))
+    test("standard input, ELF", called("-", input=elf([(1, 6, BASE, image)]), stdin=None), (0, text, ""))
+    test("standard input that is empty", called("-")[:2], (1, ""))
+    test("standard input that is closed", called("-", stdin=None, preexec_fn=lambda: os.close(0)), (1, "", "firmware_lines.py: standard input is closed\n"))
+    for value in ("zz", "", "-1", "0x", "1_0", "1e3", " 1", "0x1g", str(2**64), "9" * 5000, "\u0663"):
+        test(f"--base {value[:20]!r}", called(sample, "--raw", "--base", value)[:2], (2, ""))
+    for options in ([], ["--raw"], ["--base", "0"], ["--zz"], ["--raw=1", "--base", "0"], ["--ra", "--ba", "0"], ["more"], ["--base"]):
+        test(f"options {options}", called(*([sample] if options else []), *options)[:2], (2, ""))
+    test("help", called("--help")[0::2], (0, ""))
+    for name in (SAMPLES, SAMPLES / "missing", "", b"\xff\xfe"):
+        test(f"file {name!r}", called(name)[:2], (1, ""))
+    crlf = text.replace("\n", "\r\n").encode()
+    for name, file, hints in (("lines", text.encode(), ["input lines"]), ("CR LF", crlf, ["input lines", "CR LF"]), ("text", b"a\r\nb\r\n", ["CR LF"])):
+        said = run(file)
+        test(f"a file of {name}", said[:2], (1, ""))
+        with tempfile.TemporaryDirectory() as folder:
+            path = pathlib.Path(folder) / "file"
+            path.write_bytes(file)
+            said = called(path)[2]
+        test(f"the hint for {name}", [hint for hint in hints if hint not in said], [])
+    for name, file in (("lines", image), ("no line", b""), ("many lines", image * 3000)):
+        with open("/dev/full", "wb") as full:
+            done = called("-", *base, input=file, stdin=None, stdout=full)
+            if file:
+                test(f"a full device, {name}", done, (2, "", "firmware_lines.py: the output can't be written: No space left on device\n"))
+        closed, into = os.pipe()
+        os.close(closed)
+        wanted = (0, "", "") if not file else (2, "", "firmware_lines.py: the output can't be written: Broken pipe\n")
+        test(f"a pipe without a reader, {name}", called("-", *base, input=file, stdin=None, stdout=into), wanted)
+        os.close(into)
+        shut = called("-", *base, input=file, stdin=None, stdout=None, preexec_fn=lambda: os.close(1))
+        test(f"a closed output, {name}", shut, (2, "", "firmware_lines.py: standard output is closed\n"))
+    with open("/dev/full", "wb") as full:
+        test("help on a full device", called("--help", stdout=full)[0], 2)
+
+
+def separator_tests():
+    """The separator scan: its kinds were counted with GNU's objdump, which gives the same lines."""
+    status, out, _ = called(SAMPLES / "separators.elf")
+    listing, lines = Listing(), out.splitlines()
+    kinds = collections.Counter(line.split()[1] for line in lines)
+    test("separators.elf", (status, len(lines), lines[0], lines[-1]), (0, 360, "65536 Auipc 3 0 0 1", "66972 Jal 0 0 0 -8"))
+    test("its kinds that are refused", {kind: count for kind, count in kinds.items() if kind not in KINDS}, {"Xor": 9, "Fence": 1})
+    test("its first refusal with 8", next(n for n, line in enumerate(lines, 1) if listing.take(line.encode()) == 8), 120)
+
 
 
 def main():
@@ -344,6 +459,9 @@ def main():
     word_tests()
     image_tests(image, lines)
     elf_tests(image, lines)
+    field_tests(image)
+    command_tests(image, lines)
+    separator_tests()
     test("samples/firmware.bin", (SAMPLES / "firmware.bin").read_bytes(), image)
     test("samples/firmware.txt", (SAMPLES / "firmware.txt").read_text(), text)
     listing = Listing()

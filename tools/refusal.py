@@ -1,8 +1,9 @@
 """The fifty kinds, the listing's grammar and its refusals, read off document 01. Shares nothing with the project's definitions and code.
 
 `refusal` gives 1 to 6, which an instruction has by itself; `Listing` every number that the listing program can give, in document 01's
-order: 0, 1 to 6, 8. Its flag, 58, is always good (no 7), and its start too (no 9 to 13).
+order: 0, 1 to 6, 8. Its flag, 58, is always good (no 7), and its start too (no 9 to 13). `WORDS` says what each of them means.
 """
+import pathlib
 import re
 
 KINDS = (
@@ -18,6 +19,10 @@ NO_RD = STORES | BRANCHES | {"Ecall"}
 
 HOLDS = 1024  # lines of the listing's list
 START = 39  # those of its start, 20 to 58
+
+# In a file of their own, a number and its words to a line, which tools/listing.sh reads too.
+REFUSALS = pathlib.Path(__file__).resolve().parent / "refusals.txt"
+WORDS = {int(number): words for number, words in (line.split(" ", 1) for line in REFUSALS.read_text().splitlines())}
 
 
 def refusal(kind, rd, rs1, rs2, imm):
