@@ -1,5 +1,5 @@
 -- A test that antt computes at every number below a bound holds of each, and a table of a function's values gives them. Assumes nothing.
-use Prim.Native.Nat.{ℕ, zero, suc, _+_, _<_}
+use Prim.Native.Nat.{ℕ, zero, suc, _+_, _-_, _≤_, _<_}
 use mathlib.Core.Bool.{Bool, true, false, _&&_, not}
 use mathlib.Core.Path.{_≡_, subst, sym, ap, _∙_}
 use mathlib.Core.List.{List, [], _∷_}
@@ -7,7 +7,7 @@ use mathlib.Core.Logic.{⊎-elim}
 use native.Mathlib.Nat.{eq-or-lt-of-le}
 use native.Mathlib.Omega.{arith}
 use borrow.Author.Tests.{lt-ltb, le-ltb, le-leb, lt-leb}
-use lib.Dec.{T, ltb, leb}
+use lib.Dec.{T, eqb, ltb, leb, eqb→eq}
 use lib.ListN.{getD}
 use Rattle.bitvec.proofs.Base.{by-le}
 
@@ -47,3 +47,16 @@ tabulated f n k d h = tabulated-from f 0 n k d h ∙ ap f (let e : 0 + k ≡ k =
 
 pub below-not : (a b : ℕ) → ltb a b ≡ not (leb b a)
 below-not a b = by-le b a (λ h. rw (le-ltb a b h, le-leb b a h)) (λ h. rw (lt-ltb a b h, lt-leb b a h))
+
+-- ---- a function that has one value over a range, which a test computes where values are told by their numbers
+
+module _ {A : Type 0} (numberOf : A → ℕ) (ofNumber : ℕ → A) (back : (a : A) → ofNumber (numberOf a) ≡ a) (f : ℕ → A) where
+  -- it has the value a at the n numbers from this one on
+  abbrev pub isEach : ℕ → ℕ → A → Bool
+  isEach from n a = allBelow n (λ k. eqb (numberOf a) (numberOf (f (from + k))))
+
+  pub each : (from n : ℕ) (a : A) → T (isEach from n a) → (k : ℕ) → from ≤ k → k < from + n → a ≡ f k
+  each from n a t k l h =
+      let here : from + (k - from) ≡ k = omega arith in
+      let same : numberOf a ≡ numberOf (f (from + (k - from))) = eqb→eq _ _ (at n (λ j. eqb (numberOf a) (numberOf (f (from + j)))) t (k - from) (omega arith)) in
+      sym (back a) ∙ ap ofNumber same ∙ back (f (from + (k - from))) ∙ ap f here

@@ -1,4 +1,13 @@
 // What a kind asks of a call: its class, how many lines it appends, whether it needs a flag.
+use riscv::ADDI;
+use riscv::BEQ;
+use riscv::BGEU;
+use riscv::JAL;
+use riscv::JALR;
+use riscv::LB;
+use riscv::LUI;
+use riscv::MULW;
+use riscv::SD;
 ghost use mathlib.Core.Path.{_≡_};
 ghost use Prim.Native.Nat.{_+_, _<_, _≤_};
 ghost use mathlib.Core.Bool.{cond};
@@ -20,25 +29,13 @@ pub enum Class {
 pub fn class_of(kind: u64) -> Class
     ensures { λ r. ⌜ r ≡ class (kindAt kind) ⌝ }
 {
-    if kind >= riscv::KINDS {
-        return Class::Call;
-    }
-    class_at(kind as usize)
-}
-
-fn class_at(kind: usize) -> Class
-    requires { ⌜ kind < 50 ⌝ }
-    ensures { λ r. ⌜ r ≡ class (kindAt kind) ⌝ }
-{
-    let letters = b"ppmmmmmmmmmmappppppppppppppppppppppppppppbbbbbbjre";
-    let letter = letters[kind];
-    match letter {
-        b'p' => Class::Plain,
-        b'm' => Class::Access,
-        b'a' => Class::Addition,
-        b'b' => Class::Branch,
-        b'j' => Class::Jump,
-        b'r' => Class::Indirect,
+    match kind {
+        LB..=SD => Class::Access,
+        ADDI => Class::Addition,
+        BEQ..=BGEU => Class::Branch,
+        JAL => Class::Jump,
+        JALR => Class::Indirect,
+        LUI..=MULW => Class::Plain,
         _ => Class::Call,
     }
 }

@@ -1,11 +1,11 @@
 -- The calls over words where the roles of the state in the words are tested, and a call over a state. Assumes nothing.
 use Prim.Native.Nat.{ℕ, _≤_}
 use mathlib.Core.Path.{_≡_, refl, sym, ap, _∙_}
-use mathlib.Core.Bool.{Bool, true, false}
+use mathlib.Core.Bool.{Bool, true, false, cond}
 use mathlib.Core.List.{List}
 use native.Mathlib.Omega.{arith}
 use borrow.Author.Tests.{le-ltb, eqb-true, eqb-false}
-use lib.Dec.{eqb}
+use lib.Dec.{eqb, ltb}
 use lib.ListN.{length}
 use Rattle.btor2.specs.declared.NodeRef.{NodeRef}
 use Rattle.riscv.specs.declared.Instruction.{Instruction}
@@ -20,14 +20,14 @@ use Rattle.state_words.proofs.Words.{read-back, read-out, out-length}
 use Rattle.lowering_calls.specs.Known.{knownWords, wordsAll}
 use Rattle.lowering_calls.proofs.Same.{Fits, size-on, same-by-words}
 
-module _ (l : Lent) (ws : List ℕ) (fits : Bool) (tested : fits ≡ Fits l (stateIn ws)) (enough : stateWords ≤ length ws) where
+module _ (l : Lent) (ws : List ℕ) (fits : Bool) (tested : fits ≡ Fits l (stateIn ws)) where
   pub one : (i : Instruction) (pc : ℕ) (flag : NodeRef) (g : Given) → g ≡ knownWords fits l ws i pc flag → g ≡ loweringWords l ws i pc flag
   unfolding knownWords loweringWords
-  one i pc flag g e = rw (le-ltb (length ws) stateWords enough) (e ∙ ap (λ b. givenBy ws (loweringGiven b l (stateIn ws) i pc flag)) tested)
+  one i pc flag g e = e ∙ ap (λ b. cond (ltb (length ws) stateWords) (given 9 l ws) (givenBy ws (loweringGiven b l (stateIn ws) i pc flag))) tested
 
-  pub many : (calls : List ℕ) (g : GivenAll) → g ≡ wordsAll fits l ws calls → g ≡ loweringAllWords l ws calls
+  pub many : stateWords ≤ length ws → (calls : List ℕ) (g : GivenAll) → g ≡ wordsAll fits l ws calls → g ≡ loweringAllWords l ws calls
   unfolding loweringAllWords
-  many calls g e = rw (le-ltb (length ws) stateWords enough) (e ∙ ap (λ b. wordsAll b l ws calls) tested ∙ same-by-words l ws calls enough)
+  many enough calls g e = rw (le-ltb (length ws) stateWords enough) (e ∙ ap (λ b. wordsAll b l ws calls) tested ∙ same-by-words l ws calls enough)
 
 -- a state put into words, and read from them after the call
 module _ (l : Lent) (s : State) (i : Instruction) (pc : ℕ) (flag : NodeRef) (size : length (s .roles) ≡ roleCount) where

@@ -64,10 +64,10 @@ module _ (fits : Bool) (l : Lent) (ws : List ℕ) (i : Instruction) (pc : ℕ) (
   unfolding knownWords
   not-written n =
       let kept : joined (rolesIn ws) (i .rd) p .lowered .state ≡ stateIn ws = ap (λ (a : Answer). a .lowered .state) whole ∙ refused-kept fits l (stateIn ws) i pc flag (λ z. n (ap (λ (a : Answer). a .lowered .refusal) whole ∙ z)) in
-      ap (given (p .refusal) (p .lent)) (sym (ap (withState ws) kept ∙ state-kept ws enough)) ∙ ap (givenBy ws) whole
+      rw (le-ltb (length ws) stateWords enough) (ap (given (p .refusal) (p .lent)) (sym (ap (withState ws) kept ∙ state-kept ws enough)) ∙ ap (givenBy ws) whole)
 
   pub written : p .refusal ≡ 0 → given 0 (p .lent) (stored ws (p .tally) (p .counts) (p .flows) (i .rd) (p .outcome)) ≡ knownWords fits l ws i pc flag
   unfolding knownWords
   written z =
       let all : given 0 (p .lent) (stored ws (p .tally) (p .counts) (p .flows) (i .rd) (p .outcome)) ≡ givenBy ws (joined (rolesIn ws) (i .rd) p) = rw (le-ltb (length ws) stateWords enough, z) in
-      all ∙ ap (givenBy ws) whole
+      rw (le-ltb (length ws) stateWords enough) (rw (le-ltb (length ws) stateWords enough) at all ∙ ap (givenBy ws) whole)

@@ -4,7 +4,7 @@ use Prim.Native.Nat.{ℕ, _+_, _/_, _≤_}
 use mathlib.Core.Path.{_≡_, refl, sym, ap, _∙_}
 use mathlib.Core.Bool.{Bool, true, false}
 use mathlib.Core.List.{List, [], _∷_}
-use borrow.Author.Tests.{eqb-true}
+use borrow.Author.Tests.{eqb-true, le-ltb}
 use lib.Dec.{eqb}
 use lib.ListN.{length}
 use Rattle.roles.specs.Roles.{roleCount}
@@ -42,7 +42,7 @@ module _ (l : Lent) (st : State) (c : Call) (size : length (st .roles) ≡ roleC
 by-words : (fits : Bool) (l : Lent) (ws : List ℕ) (c : Call) → stateWords ≤ length ws → fits ≡ Fits l (stateIn ws)
     → knownWords fits l ws (c .instruction) (c .address) (c .flag) ≡ givenBy ws (lowering l (stateIn ws) (c .instruction) (c .address) (c .flag))
 unfolding knownWords
-by-words fits l ws c h e = rw e
+by-words fits l ws c h e = rw (le-ltb (length ws) stateWords h, e)
 
 -- ---- all calls
 

@@ -1,20 +1,20 @@
 -- Calls over a state's words by the answer of the test of the roles, for private functions.
 use Prim.Native.Nat.{ℕ, _+_, _/_}
-use mathlib.Core.Bool.{Bool, true, false}
+use mathlib.Core.Bool.{Bool, true, false, cond}
 use mathlib.Core.List.{List, [], _∷_}
-use lib.Dec.{eqb}
+use lib.Dec.{eqb, ltb}
 use lib.ListN.{length}
 use Rattle.btor2.specs.declared.NodeRef.{NodeRef}
 use Rattle.riscv.specs.declared.Instruction.{Instruction}
 use Rattle.lowering.specs.Lowering.{Lent, loweringGiven}
-use Rattle.state_words.specs.Words.{stateIn}
-use Rattle.lowering.specs.Words.{Given, givenBy}
+use Rattle.state_words.specs.Words.{stateWords, stateIn}
+use Rattle.lowering.specs.Words.{Given, given, givenBy}
 use Rattle.lowering.specs.All.{Call, callWords, callsIn, GivenAll, givenAll}
 
 -- ---- one call, and many, where it is known whether the roles fit
 
 unfoldable pub knownWords : Bool → Lent → List ℕ → Instruction → ℕ → NodeRef → Given
-knownWords fits l ws i pc flag = givenBy ws (loweringGiven fits l (stateIn ws) i pc flag)
+knownWords fits l ws i pc flag = cond (ltb (length ws) stateWords) (given 9 l ws) (givenBy ws (loweringGiven fits l (stateIn ws) i pc flag))
 
 unfoldable pub wordsOn : Bool → ℕ → Lent → List ℕ → List Call → GivenAll
 wordsOn fits done l ws [] = givenAll done 0 l ws

@@ -16,7 +16,7 @@ ghost use lib.ListN.{length, drop};
 ghost use Rattle.models.specs.Code.{flowsOf, outcomeOf};
 ghost use Rattle.roles_check.specs.RolesFit.{rolesFit};
 ghost use Rattle.lowering.specs.Lowering.{lent, answer, lowering};
-ghost use Rattle.state_words.specs.Words.{stateWords, stateIn, stored};
+ghost use Rattle.state_words.specs.Words.{stateIn, stored};
 ghost use Rattle.lowering.specs.Words.{given, loweringWords};
 ghost use Rattle.lowering.specs.All.{callWords, callIn, givenAll, loweringAllWords};
 ghost use Rattle.lowering_calls.specs.Known.{knownWords, wordsAll};
@@ -93,9 +93,6 @@ pub fn lower_words(
 ) -> u64
     ensures { λ r. ⌜ given r (lent (now (list .exit)) (now (names .exit)) (now (edges .exit)) (now (dispatches .exit)) (now (bads .exit))) (now (state .exit)) ≡ loweringWords (lent (now (list .entry)) (now (names .entry)) (now (edges .entry)) (now (dispatches .entry)) (now (bads .entry))) (now (state .entry)) i address flag ⌝ }
 {
-    if state.len() < STATE_WORDS {
-        return BAD_COUNT;
-    }
     let fits = roles_fit(list, state);
     lower_known(
         list,
@@ -143,7 +140,7 @@ fn roles_fit(list: &[u64], words: &[u64]) -> bool
     !roles_check::roles_out(list, t.lines, places)
 }
 
-// A call over the state's words where it is known whether the roles fit.
+// A call over the state's words where it is known whether the roles of the state in them fit.
 fn lower_known(
     list: &mut [u64],
     names: &mut [u8],
@@ -156,9 +153,11 @@ fn lower_known(
     flag: NodeRef,
     fits: bool,
 ) -> u64
-    requires { ⌜ stateWords ≤ length (now state) ⌝ }
     ensures { λ r. ⌜ given r (lent (now (list .exit)) (now (names .exit)) (now (edges .exit)) (now (dispatches .exit)) (now (bads .exit))) (now (state .exit)) ≡ knownWords fits (lent (now (list .entry)) (now (names .entry)) (now (edges .entry)) (now (dispatches .entry)) (now (bads .entry))) (now (state .entry)) i address flag ⌝ }
 {
+    if state.len() < STATE_WORDS {
+        return BAD_COUNT;
+    }
     let t = state_words::tally_in(state);
     let c = state_words::counts_in(state);
     let e = state_words::reads_in(state, flag, i);
@@ -206,7 +205,6 @@ fn lower_rest(
     calls: &[u64],
     fits: bool,
 ) -> Stopped
-    requires { ⌜ stateWords ≤ length (now state) ⌝ }
     ensures { λ r. ⌜ givenAll (r .done) (r .refusal) (lent (now (list .exit)) (now (names .exit)) (now (edges .exit)) (now (dispatches .exit)) (now (bads .exit))) (now (state .exit)) ≡ wordsAll fits (lent (now (list .entry)) (now (names .entry)) (now (edges .entry)) (now (dispatches .entry)) (now (bads .entry))) (now (state .entry)) (now (calls .entry)) ⌝ }
 {
     let count = calls.len() / CALL;

@@ -138,8 +138,7 @@ pub fn check(i: Instruction) -> u64
     if kind >= KINDS {
         return 1;
     }
-    let number = kind as usize;
-    let format = format_of(number);
+    let format = format_of(kind);
     if registers_out(format, i.rd, i.rs1, i.rs2) {
         return 2;
     }
@@ -152,7 +151,7 @@ pub fn check(i: Instruction) -> u64
     if zero_srliw(kind, i.imm) {
         return 4;
     }
-    if zero_rd(number, i.rd) {
+    if zero_rd(kind, i.rd) {
         return 5;
     }
     if indirect_offset(kind, i.rs1, i.imm) {
@@ -161,20 +160,20 @@ pub fn check(i: Instruction) -> u64
     0
 }
 
-// The format of a kind, by its letter; Ecall has none.
-fn format_of(kind: usize) -> Format
+// The format of a kind; Ecall has none.
+fn format_of(kind: u64) -> Format
     requires { ⌜ kind < 50 ⌝ }
     ensures { λ r. ⌜ r ≡ format (kindAt kind) ⌝ }
 {
-    let letters = b"UUIIIIIISSSSIIIIIIIIIIIIRRRRRRRRRRRRRRRRRBBBBBBJI-";
-    let letter = letters[kind];
-    match letter {
-        b'R' => Format::R,
-        b'I' => Format::I,
-        b'S' => Format::S,
-        b'B' => Format::B,
-        b'U' => Format::U,
-        b'J' => Format::J,
+    match kind {
+        LUI..=AUIPC => Format::U,
+        LB..=LHU => Format::I,
+        SB..=SD => Format::S,
+        ADDI..=SRAIW => Format::I,
+        ADD..=MULW => Format::R,
+        BEQ..=BGEU => Format::B,
+        JAL => Format::J,
+        JALR => Format::I,
         _ => Format::System,
     }
 }
@@ -257,16 +256,19 @@ fn zero_srliw(kind: u64, imm: u64) -> bool
     (kind == SRLIW) & (imm == 0)
 }
 
-// 5: rd is x0, of a kind that writes rd, other than Addi, Jal and Jalr (a `d`).
-fn zero_rd(kind: usize, rd: u64) -> bool
+// 5: rd is x0, of a kind that writes rd, other than Addi, Jal and Jalr.
+fn zero_rd(kind: u64, rd: u64) -> bool
     requires { ⌜ kind < 50 ⌝ }
     ensures { λ r. ⌜ r ≡ zeroRd (kindAt kind) rd ⌝ }
 {
     if rd != 0 {
         return false;
     }
-    let marks = b"dddddddd-----dddddddddddddddddddddddddddd---------";
-    marks[kind] == b'd'
+    match kind {
+        LUI..=LHU => true,
+        SLTIU..=MULW => true,
+        _ => false,
+    }
 }
 
 // 6: Jalr under a register with an offset.

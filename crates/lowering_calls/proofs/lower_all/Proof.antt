@@ -13,9 +13,6 @@ returns : tie.Need-returns
 unfolding loweringAllWords
 returns c = rw (lt-ltb _ stateWords (c .if1 .taken))
 
-lower-rest-requires : tie.Need-lower-rest-requires
-lower-rest-requires c κs = c .before .before .before .before .before .before .before .before .before .if1 .left
-
 returns-2 : tie.Need-returns-2
 returns-2 c =
     let call = c .before .before .before .before .before .before .before .before .before .before .before .before in
@@ -28,4 +25,4 @@ returns-2 c =
 pub lower-all-spec : {M : Type 1} → statement M
 lower-all-spec =
     tie.close
-    (tie.spec returns (λ c κs. search needs) lower-rest-requires (λ c. search needs) (λ c. search needs) (λ c. search needs) (λ c. search needs) (λ c. search needs) (λ c. search needs) returns-2)
+    (tie.spec returns (λ c κs. search needs) (λ c κs. search needs) (λ c. search needs) (λ c. search needs) (λ c. search needs) (λ c. search needs) (λ c. search needs) (λ c. search needs) returns-2)

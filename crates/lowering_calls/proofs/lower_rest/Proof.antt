@@ -6,7 +6,6 @@ use borrow.Author.Needs.{needs}
 use denote.Ref.{now}
 use lib.ListN.{length, drop}
 use Rattle.lowering.specs.Lowering.{lent}
-use Rattle.state_words.specs.Words.{stateWords}
 use Rattle.lowering.specs.Words.{given}
 use Rattle.lowering.specs.All.{callIn, callsIn}
 use Rattle.lowering_calls.specs.Known.{wordsOn, wordsAll}
@@ -18,7 +17,7 @@ abbrev Inv-loop : tie.InvT-loop
 Inv-loop list₀ names₀ edges₀ dispatches₀ bads₀ state₀ calls fits count done₀ list names edges dispatches bads state done =
     ((length list ≡ length list₀) × (length names ≡ length names₀) × (length edges ≡ length edges₀) × (length dispatches ≡ length dispatches₀) × (length bads ≡ length bads₀) × (length state ≡ length state₀))
     × (done ≤ count) × (count ≡ length calls / 7)
-    × (stateWords ≤ length state) × (wordsOn fits done (lent list names edges dispatches bads) state (callsIn (count - done) (drop (done * 7) calls)) ≡ wordsAll fits (lent list₀ names₀ edges₀ dispatches₀ bads₀) state₀ calls)
+    × (wordsOn fits done (lent list names edges dispatches bads) state (callsIn (count - done) (drop (done * 7) calls)) ≡ wordsAll fits (lent list₀ names₀ edges₀ dispatches₀ bads₀) state₀ calls)
 
 abbrev μ-loop : tie.MeasureT-loop
 μ-loop list₀ names₀ edges₀ dispatches₀ bads₀ state₀ calls fits count done₀ list names edges dispatches bads state done = count - done
@@ -29,15 +28,11 @@ loop-holds c =
       (refl, refl, refl, refl, refl, refl),
       omega arith,
       refl,
-      c .before .before .before .before .before .before .before .pre,
       from-none (a .fits) (lent (now (a .list)) (now (a .names)) (now (a .edges)) (now (a .dispatches)) (now (a .bads))) (now (a .state)) (now (a .calls)),
     )
 
 call-at-requires : tie.Need-call-at-requires Inv-loop μ-loop
 call-at-requires c κs = omega arith
-
-lower-known-requires : tie.Need-lower-known-requires Inv-loop μ-loop
-lower-known-requires c κs = c .before .before .before .before .before .before .before .before .before .before .loop .inv .3
 
 returns : tie.Need-returns Inv-loop μ-loop
 returns c =
@@ -51,7 +46,7 @@ returns c =
     let left = callsIn (length (now (a .calls)) / 7 - (at .loop .done + 1)) (drop ((at .loop .done + 1) * 7) (now (a .calls))) in
     stops (a .fits) here (at .loop .state) next gave (rw (← told .call-at .ensures .0, ← told .call-at .ensures .1 .0, ← told .call-at .ensures .1 .1) (call .lower-known .ensures)) (at .loop .done) left (c .if1 .taken)
     ∙ ap (wordsOn (a .fits) (at .loop .done) here (at .loop .state)) (sym (calls-next (length (now (a .calls)) / 7) (at .loop .done) (now (a .calls)) (omega arith)))
-    ∙ at .loop .inv .4
+    ∙ at .loop .inv .3
 
 add-done : tie.Need-add-done Inv-loop μ-loop
 add-done c =
@@ -72,10 +67,9 @@ loop-again c =
       (search needs, search needs, search needs, search needs, search needs, search needs),
       omega arith,
       refl,
-      rw (call .lower-known .kept .1 .1 .1 .1 .1 .0) (at .loop .inv .3),
       goes-on (a .fits) here (at .loop .state) next gave (rw (← told .call-at .ensures .0, ← told .call-at .ensures .1 .0, ← told .call-at .ensures .1 .1) (call .lower-known .ensures)) (at .loop .done) left (c .if1 .left)
           ∙ ap (wordsOn (a .fits) (at .loop .done) here (at .loop .state)) (sym (calls-next (length (now (a .calls)) / 7) (at .loop .done) (now (a .calls)) (omega arith)))
-          ∙ at .loop .inv .4,
+          ∙ at .loop .inv .3,
     )
 
 returns-2 : tie.Need-returns-2 Inv-loop μ-loop
@@ -84,7 +78,7 @@ returns-2 c =
     let a = at .before .before .before .before .before .before .before .before .args in
     ends (a .fits) (length (now (a .calls)) / 7) (at .loop .done) (lent (at .loop .list) (at .loop .names) (at .loop .edges) (at .loop .dispatches) (at .loop .bads)) (at .loop .state)
     (drop (at .loop .done * 7) (now (a .calls))) (omega arith)
-    ∙ at .loop .inv .4
+    ∙ at .loop .inv .3
 
 pub lower-rest-spec : {M : Type 1} → statement M
 lower-rest-spec =
@@ -94,7 +88,7 @@ lower-rest-spec =
     μ-loop
     loop-holds
     call-at-requires
-    lower-known-requires
+    (λ c κs. search needs)
     (λ c. search needs)
     (λ c. search needs)
     (λ c. search needs)
