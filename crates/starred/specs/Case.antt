@@ -3,42 +3,48 @@ use Prim.Native.Nat.{ℕ, _-_, _*_}
 use mathlib.Core.Bool.{cond}
 use mathlib.Core.List.{List, [], _∷_, map}
 use lib.Dec.{eqb}
-use lib.ListN.{getD, take, replicate}
+use lib.ListN.{getD, take}
+use Rattle.btor2.specs.declared.NodeRef.{NodeRef}
 use Rattle.btor2.specs.Op.{Op, unknown}
 use Rattle.btor2.specs.Value as B
 use Rattle.btor2.specs.Value.{Env}
 use Rattle.btor2_list.specs.View.{view}
 use Rattle.list_check.specs.Lines.{ops}
+use Rattle.edges.specs.Edges.{edgeStride}
+use Rattle.edges.specs.Records.{dispatchStride}
 use Rattle.riscv.specs.declared.Instruction.{Instruction}
 use Rattle.riscv.specs.Kind as K
 use Rattle.riscv.specs.Kind.{Kind}
-use Rattle.roles.specs.Roles.{ref}
-use Rattle.lowering.specs.Lowering.{Lent, lent, Answer, lowering}
-use Rattle.listing_start.specs.Start.{startIn, startState}
+use Rattle.lowering.specs.Lowering.{Answer, lowering}
+use Rattle.listing_start.specs.Start.{placed, startState}
+use Rattle.listing_bytes.specs.Storage.{startLent}
 
--- ---- what is given: an instruction at an address
+-- ---- what is asked: an instruction at an address
 
-pub record Given : Type 0 where
+pub record Asked : Type 0 where
   pub instruction : Instruction
   pub address : ℕ
 
 -- kind, rd, rs1, rs2, imm
-abbrev pub at : ℕ → Kind → ℕ → ℕ → ℕ → ℕ → Given
-at address k rd rs1 rs2 imm = record { instruction = record { kind = K.kindNumber k; rd = rd; rs1 = rs1; rs2 = rs2; imm = imm }; address = address }
+abbrev pub asked : ℕ → Kind → ℕ → ℕ → ℕ → ℕ → Asked
+asked address k rd rs1 rs2 imm = record { instruction = record { kind = K.kindNumber k; rd = rd; rs1 = rs1; rs2 = rs2; imm = imm }; address = address }
 
--- what the listing lends: its start in words for 1,024 lines, the bytes of 1,024 names, two edges, a dispatch and 1,024 bads
-unfoldable pub room : Lent
-room = lent (startIn (replicate 4096 0)) (replicate 33792 0) (replicate 8 0) (replicate 2 0) (replicate 1024 0)
+-- "Every instruction uses flag 58."
+abbrev pub flag : NodeRef
+flag = placed 58
 
--- lowered under the listing's flag, identifier 58 at place 38
-unfoldable pub answer : Given → Answer
-answer g = lowering room startState (g .instruction) (g .address) (ref 38)
+abbrev pub memory : NodeRef
+memory = placed 55
+
+-- lowered from the listing's start, with what it lends
+unfoldable pub answerTo : Asked → Answer
+answerTo a = lowering startLent startState (a .instruction) (a .address) flag
 
 -- ---- what is to come of it
 
--- the states of the start: what x1 to x31 are, and the memory at each address; the flag is true
+-- the states of the start: what x1 to x31 are, x1 being at place 4, and what the memory has at each address; the flag is true
 unfoldable pub states : (ℕ → ℕ) → (ℕ → ℕ) → Env
-states x memory place = cond (eqb place 38) (B.number 1) (cond (eqb place 35) (B.array memory) (B.number (x (place - 3))))
+states x cell place = cond (eqb place (flag .0)) (B.number 1) (cond (eqb place (memory .0)) (B.array cell) (B.number (x (place - 3))))
 
 pub data Finding : Type 0 where
   -- the refusal; 0 is an accepted call
@@ -62,11 +68,11 @@ found a (refusal n) = refusal (a .lowered .refusal)
 found a (lines n) = lines (a .lowered .state .tally .lines)
 found a (line p o) = line p (getD (linesAfter a) p unknown)
 found a (value p env n) = value p env (B.value env (linesAfter a) p .num)
-found a (edges es) = edges (take (a .lowered .state .counts .edges * 4) (a .lent .edges))
-found a (dispatches ds) = dispatches (take (a .lowered .state .counts .dispatches * 2) (a .lent .dispatches))
+found a (edges es) = edges (take (a .lowered .state .counts .edges * edgeStride) (a .lent .edges))
+found a (dispatches ds) = dispatches (take (a .lowered .state .counts .dispatches * dispatchStride) (a .lent .dispatches))
 found a (bads bs) = bads (take (a .lowered .state .counts .bads) (a .lent .bads))
 
 -- a table of cases, with what the calls give in place of what is to come of them
-abbrev pub answered : List (Given × List Finding) → List (Given × List Finding)
+abbrev pub answered : List (Asked × List Finding) → List (Asked × List Finding)
 answered [] = []
-answered (c ∷ cs) = (c .0, map (found (answer (c .0))) (c .1)) ∷ answered cs
+answered (c ∷ cs) = (c .0, map (found (answerTo (c .0))) (c .1)) ∷ answered cs

@@ -1,5 +1,5 @@
 -- Document 01, "Bench cases (starred: proved together)": the starred ones, each under its words. The start's lines stand at places 0 to 38: x1 at
--- 4, x2 at 5, the flag at 38; a call's from 39 on.
+-- 4, x2 asked 5, the flag asked 38; a call's from 39 on.
 use Prim.Native.Nat.{_+_, _-_, _^_}
 use mathlib.Core.Path.{_≡_}
 use mathlib.Core.Bool.{cond}
@@ -9,31 +9,31 @@ use Rattle.btor2.specs.declared.NodeType.the-variants.{Bit, Word}
 use Rattle.btor2.specs.Op.{const, bin, sdiv, ult, not, bad}
 use Rattle.edges.specs.Edges.{edge, noCondition}
 use Rattle.riscv.specs.Kind.{Lui, Auipc, Lh, Addi, Slli, Srliw, Div, Bgeu, Jal, Jalr}
-use Rattle.starred.specs.Case.{Given, at, states, Finding, refusal, lines, line, value, edges, dispatches, bads, answered}
+use Rattle.starred.specs.Case.{Asked, asked, states, Finding, refusal, lines, line, value, edges, dispatches, bads, answered}
 
-unfoldable pub cases : List (Given × List Finding)
+unfoldable pub cases : List (Asked × List Finding)
 cases =
     -- "Srliw 31 accepted, 0 gives 4, 32 gives 3; with 0 and rd x0, still 4."
-    (at 65536 Srliw 1 2 0 31, refusal 0 ∷ [])
-    ∷ (at 65536 Srliw 1 2 0 0, refusal 4 ∷ [])
-    ∷ (at 65536 Srliw 1 2 0 32, refusal 3 ∷ [])
-    ∷ (at 65536 Srliw 0 2 0 0, refusal 4 ∷ [])
+    (asked 65536 Srliw 1 2 0 31, refusal 0 ∷ [])
+    ∷ (asked 65536 Srliw 1 2 0 0, refusal 4 ∷ [])
+    ∷ (asked 65536 Srliw 1 2 0 32, refusal 3 ∷ [])
+    ∷ (asked 65536 Srliw 0 2 0 0, refusal 4 ∷ [])
     -- "Slli 63 accepted, 64 gives 3."
-    ∷ (at 65536 Slli 1 2 0 63, refusal 0 ∷ [])
-    ∷ (at 65536 Slli 1 2 0 64, refusal 3 ∷ [])
+    ∷ (asked 65536 Slli 1 2 0 63, refusal 0 ∷ [])
+    ∷ (asked 65536 Slli 1 2 0 64, refusal 3 ∷ [])
     -- "Addi x0, imm 5: no line, one edge. Addi x1, x0, 0: 11 lines; with imm 1: 12."
-    ∷ (at 65536 Addi 0 2 0 5, refusal 0 ∷ lines 39 ∷ edges (edge 65540 65536 0 noCondition) ∷ [])
-    ∷ (at 65536 Addi 1 0 0 0, refusal 0 ∷ lines (39 + 11) ∷ [])
-    ∷ (at 65536 Addi 1 0 0 1, refusal 0 ∷ lines (39 + 12) ∷ [])
-    -- "Auipc at 65,536 with 1,048,575: constant 61,440."
-    ∷ (at 65536 Auipc 1 0 0 1048575, refusal 0 ∷ line 39 (const Word 61440) ∷ [])
+    ∷ (asked 65536 Addi 0 2 0 5, refusal 0 ∷ lines 39 ∷ edges (edge 65540 65536 0 noCondition) ∷ [])
+    ∷ (asked 65536 Addi 1 0 0 0, refusal 0 ∷ lines (39 + 11) ∷ [])
+    ∷ (asked 65536 Addi 1 0 0 1, refusal 0 ∷ lines (39 + 12) ∷ [])
+    -- "Auipc asked 65,536 with 1,048,575: constant 61,440."
+    ∷ (asked 65536 Auipc 1 0 0 1048575, refusal 0 ∷ line 39 (const Word 61440) ∷ [])
     -- "Lui 524,288: constant 18446744071562067968."
-    ∷ (at 65536 Lui 1 0 0 524288, refusal 0 ∷ line 39 (const Word 18446744071562067968) ∷ [])
-    -- "Jal x0, imm 4 at 2^64 − 4: edge to 0."
-    ∷ (at (2 ^ 64 - 4) Jal 0 0 0 4, refusal 0 ∷ edges (edge 0 (2 ^ 64 - 4) 0 noCondition) ∷ [])
+    ∷ (asked 65536 Lui 1 0 0 524288, refusal 0 ∷ line 39 (const Word 18446744071562067968) ∷ [])
+    -- "Jal x0, imm 4 asked 2^64 − 4: edge to 0."
+    ∷ (asked (2 ^ 64 - 4) Jal 0 0 0 4, refusal 0 ∷ edges (edge 0 (2 ^ 64 - 4) 0 noCondition) ∷ [])
     -- "Bgeu imm 4: two edges to one address, taken first."
     ∷ (
-      at 65536 Bgeu 0 1 2 4,
+      asked 65536 Bgeu 0 1 2 4,
       refusal 0
           ∷ line 39 (bin ult 4 5)
           ∷ line 40 (not Bit 39)
@@ -43,14 +43,14 @@ cases =
     )
     -- "Jalr x0, x0, 8: one bad line, no edge. Jalr x0, x1, 4: refusal 6." The bad line's name is in our area, "unimplemented-pc-10000".
     ∷ (
-      at 65536 Jalr 0 0 0 8,
+      asked 65536 Jalr 0 0 0 8,
       refusal 0 ∷ lines (39 + 1) ∷ line 39 (bad 38 (record { area = 2; at = 0; len = 22 })) ∷ edges [] ∷ dispatches [] ∷ bads (39 ∷ []) ∷ [],
     )
-    ∷ (at 65536 Jalr 0 1 0 4, refusal 6 ∷ [])
+    ∷ (asked 65536 Jalr 0 1 0 4, refusal 6 ∷ [])
     -- "Lh from cell 2^63 at offset 6: −32,768.": x2 is 64, and the cell there 2^63; the last line is x1's flow
-    ∷ (at 65536 Lh 1 2 0 6, refusal 0 ∷ lines (39 + 19) ∷ value (38 + 19) (states (λ r. 64) (λ a. cond (eqb a 64) (2 ^ 63) 0)) (2 ^ 64 - 32768) ∷ [])
+    ∷ (asked 65536 Lh 1 2 0 6, refusal 0 ∷ lines (39 + 19) ∷ value (38 + 19) (states (λ r. 64) (λ a. cond (eqb a 64) (2 ^ 63) 0)) (2 ^ 64 - 32768) ∷ [])
     -- "Div −7 by 0: line value 1."
-    ∷ (at 65536 Div 1 2 3 0, refusal 0 ∷ line 40 (bin sdiv 5 6) ∷ value 40 (states (λ r. cond (eqb r 2) (2 ^ 64 - 7) 0) (λ a. 0)) 1 ∷ [])
+    ∷ (asked 65536 Div 1 2 3 0, refusal 0 ∷ line 40 (bin sdiv 5 6) ∷ value 40 (states (λ r. cond (eqb r 2) (2 ^ 64 - 7) 0) (λ a. 0)) 1 ∷ [])
     ∷ []
 
 -- what the calls give is what the table says
