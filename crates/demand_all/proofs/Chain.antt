@@ -16,7 +16,8 @@ use Rattle.lowering.specs.Lowering.{Lent, lent, Answer, lowering}
 use Rattle.state_words.specs.Words.{stateWords, stateIn, rolesIn, withState}
 use Rattle.lowering.specs.Words.{Given, givenBy, loweringWords}
 use Rattle.lowering.proofs.Refused.{refused-kept}
-use Rattle.state_words.proofs.Words.{by-six, size-in, read-back, state-kept, put-length}
+use Rattle.state_words.proofs.Words.{by-six, size-in, state-kept, put-length}
+use Rattle.lowering.proofs.Words.{read-back}
 use Rattle.roles_kept.proofs.Call.{refusal-is, roled-after}
 use Rattle.demand.specs.Calls.{Held, Request, Call, lower, inFront, lentFor, stateFor, answerTo, accepted, step, run}
 use Rattle.demand_all.specs.Chain.{Kept, Link, withCounts, answerBy, after, chain, requestFor, chainRequests, heldIn, PassesOn, ChainIsRun}

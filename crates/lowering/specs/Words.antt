@@ -1,11 +1,14 @@
--- A call over the state's words.
+-- A call over the state's words, and the law that a chain of such calls rests on.
 use Prim.Native.Nat.{ℕ}
+use mathlib.Core.Path.{_≡_}
 use mathlib.Core.Bool.{cond}
 use mathlib.Core.List.{List}
 use lib.Dec.{ltb}
 use lib.ListN.{length}
 use Rattle.btor2.specs.declared.NodeRef.{NodeRef}
 use Rattle.riscv.specs.declared.Instruction.{Instruction}
+use Rattle.roles.specs.Roles.{roleCount}
+use Rattle.lowering_refusals.specs.declared.State.{State}
 use Rattle.state_words.specs.Words.{stateWords, stateIn, withState}
 use Rattle.lowering.specs.Lowering.{Lent, Answer, lowering}
 
@@ -24,3 +27,7 @@ givenBy ws a = given (a .lowered .refusal) (a .lent) (withState ws (a .lowered .
 -- 9: "a count above its storage", where there is no room for the counts themselves; else what the lowering of the state in these words gives
 unfoldable pub loweringWords : Lent → List ℕ → Instruction → ℕ → NodeRef → Given
 loweringWords l ws i pc flag = cond (ltb (length ws) stateWords) (given 9 l ws) (givenBy ws (lowering l (stateIn ws) i pc flag))
+
+-- the law: a state that was put into words is read from them; that there are 79 roles is what the code's type of them gives
+abbrev pub ReadBack : Type 0
+ReadBack = (ws : List ℕ) (s : State) → length (s .roles) ≡ roleCount → stateIn (withState ws s) ≡ s

@@ -16,7 +16,8 @@ use Rattle.state_words.specs.Words.{stateWords, stateIn, stateOut, withState}
 use Rattle.lowering.specs.Words.{Given, given, givenBy, loweringWords}
 use Rattle.lowering.specs.All.{GivenAll, loweringAllWords}
 use Rattle.lowering.proofs.Refused.{refused-kept}
-use Rattle.state_words.proofs.Words.{read-back, read-out, out-length}
+use Rattle.state_words.proofs.Words.{read-out, out-length}
+use Rattle.lowering.proofs.Words.{read-back}
 use Rattle.lowering_calls.specs.Known.{knownWords, wordsAll}
 use Rattle.lowering_calls.proofs.Same.{Fits, size-on, same-by-words}
 

@@ -15,7 +15,8 @@ use Rattle.lowering.specs.Lowering.{Lent, Answer, roomIn, lowering}
 use Rattle.state_words.specs.Words.{stateWords, rolesIn, stateIn, withState}
 use Rattle.lowering.specs.Words.{Given, givenBy}
 use Rattle.lowering.specs.All.{Call, callWords, callsIn, AnswerAll, answerAll, loweringOn, loweringAll, GivenAll, givenAll, allBy}
-use Rattle.state_words.proofs.Words.{size-in, read-back, state-kept, put-again, put-length}
+use Rattle.state_words.proofs.Words.{size-in, state-kept, put-again, put-length}
+use Rattle.lowering.proofs.Words.{read-back}
 use Rattle.roles_kept.proofs.Passed.{roles-in}
 use Rattle.roles_kept.proofs.Call.{refusal-is, roled-after, roles-keep}
 use Rattle.lowering_calls.specs.Known.{knownWords, wordsOn, wordsAll}

@@ -36,6 +36,7 @@ pub struct Stopped {
     pub refusal: u64,
 }
 
+// An instruction at an address under a flag, as one of many calls has it.
 struct Call {
     instruction: Instruction,
     address: u64,

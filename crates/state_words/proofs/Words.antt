@@ -1,4 +1,4 @@
--- A state's words: a role read and set, and that a state which was put into words is read from them. Assumes nothing.
+-- A state's words: a role read and set, and what words that a state was put into hold. Assumes nothing.
 use Prim.Native.Nat.{ℕ, zero, suc, _+_, _≤_, _<_}
 use native.Mathlib.Omega.{arith}
 use mathlib.Core.Path.{_≡_, refl, sym, ap, _∙_}
@@ -8,7 +8,7 @@ use lib.Seq.{getD-drop, drop-set-add, drop-at}
 use Rattle.btor2.specs.declared.NodeRef.{NodeRef}
 use Rattle.roles.specs.Roles.{ref, role, roleCount}
 use Rattle.lowering_refusals.specs.declared.State.{State}
-use Rattle.state_words.specs.Words.{firstRole, stateWords, placesIn, rolesIn, stateIn, place, stateOut, withState, ReadBack}
+use Rattle.state_words.specs.Words.{firstRole, stateWords, placesIn, rolesIn, stateIn, place, stateOut, withState}
 
 -- ---- places one after the other
 
@@ -38,7 +38,7 @@ places-kept zero ws h = refl
 places-kept (suc n) [] h = absurd (omega arith)
 places-kept (suc n) (w ∷ ws) h = ap (λ r. w ∷ r) (places-kept n ws (omega arith))
 
-places-back : (roles : List NodeRef) (ws : List ℕ) (n : ℕ) → length roles ≡ n → placesIn n (map place roles ++ ws) ≡ roles
+pub places-back : (roles : List NodeRef) (ws : List ℕ) (n : ℕ) → length roles ≡ n → placesIn n (map place roles ++ ws) ≡ roles
 unfolding placesIn
 places-back [] ws zero h = refl
 places-back [] ws (suc n) h = absurd (omega arith)
@@ -75,10 +75,6 @@ by-six Q (a ∷ b ∷ c ∷ []) h q = absurd (omega arith)
 by-six Q (a ∷ b ∷ []) h q = absurd (omega arith)
 by-six Q (a ∷ []) h q = absurd (omega arith)
 by-six Q [] h q = absurd (omega arith)
-
-pub read-back : ReadBack
-unfolding stateIn rolesIn withState stateOut
-read-back ws s h = ap (λ (roles : List NodeRef). record { tally = s .tally; counts = s .counts; roles = roles }) (places-back (s .roles) (drop stateWords ws) roleCount h)
 
 -- the words of a state alone
 pub read-out : (s : State) → length (s .roles) ≡ roleCount → stateIn (stateOut s) ≡ s

@@ -1,6 +1,5 @@
 -- The state between calls as words that a host keeps.
 use Prim.Native.Nat.{ℕ, zero, suc, _+_}
-use mathlib.Core.Path.{_≡_}
 use mathlib.Core.Bool.{cond}
 use mathlib.Core.List.{List, [], _∷_, _++_, map}
 use lib.Dec.{ltb}
@@ -48,10 +47,6 @@ stateOut s =
 -- words that hold another state; those after it are as they were
 unfoldable pub withState : List ℕ → State → List ℕ
 withState ws s = stateOut s ++ drop stateWords ws
-
--- the law: a state that was put into words is read from them; that there are 79 roles is what the code's type of them gives
-abbrev pub ReadBack : Type 0
-ReadBack = (ws : List ℕ) (s : State) → length (s .roles) ≡ roleCount → stateIn (withState ws s) ≡ s
 
 -- ---- what a call reads and puts, where there may be fewer words than a state has
 
