@@ -62,12 +62,14 @@ use riscv::SUBW;
 use riscv::SW;
 use riscv::XORI;
 ghost use mathlib.Core.Path.{_≡_};
-ghost use mathlib.Core.Bool.{_&&_};
+ghost use mathlib.Core.Bool.{Bool, _&&_};
 ghost use mathlib.Core.List.{[], _∷_};
-ghost use Rattle.riscv.specs.Kind.{kindAt, oneOf, Jalr};
+ghost use Prim.Native.Nat.{ℕ, _≤_};
+ghost use Rattle.riscv.specs.Kind.{kindAt, kindNumber, oneOf, Lb, Ld, Lhu, Sb, Sw, Sd, Addi, Xori, Srai, Sraiw, Add, And, Mul, Mulw, Beq, Bgeu, Jalr};
 ghost use Rattle.models.specs.Model.{model, regFlowIte, memoryFlowIte, settle, unimplemented, translate};
 ghost use Rattle.models.specs.Code.{operandsOf, flowsOf, outcomeOf, modeledOf};
 ghost use Rattle.builder.specs.Gives.{Gives};
+ghost use Rattle.translate.specs.Family.{Branches, Loads, Stores, TakesConstant};
 
 // The lines of a kind before that of its flow. `imm` is its constant; the tests are: imm is 0, rd is x0, rs1 is x0. What is no other kind
 // is Ecall.
@@ -85,30 +87,156 @@ fn model_kind(
     ensures { λ r. ⌜ Gives (now (list .entry)) t (model (operandsOf e) (flowsOf f) imm (kindAt kind) z d s) (now (list .exit)) (r .tally) (modeledOf r) ⌝ }
 {
     match kind {
-        LUI => models_constant::constant(list, t, f, imm),
-        AUIPC => models_constant::constant(list, t, f, imm),
-        LB => models_load::load(list, t, e, f, z, imm, 56, true),
-        LH => models_load::load(list, t, e, f, z, imm, 48, true),
-        LW => models_load::load(list, t, e, f, z, imm, 32, true),
+        LUI..=AUIPC => models_constant::constant(list, t, f, imm),
+        LB..=SD => model_access(list, t, e, f, imm, kind, z),
+        ADDI..=SRAIW => model_immediate(list, t, e, f, imm, kind, z, d, s),
+        ADD..=AND => model_register(list, t, e, f, kind),
+        MUL..=MULW => model_product(list, t, e, f, kind),
+        BEQ..=BGEU => {
+            let operator = branch_operator(kind);
+            models_control::model_branch(list, t, operator, e, f)
+        }
+        JAL..=JALR => models_constant::link(list, t, f, imm, d),
+        _ => models_control::model_ecall(list, t, e, f),
+    }
+}
+
+fn branch_operator(kind: u64) -> Operator
+    requires { ⌜ (kindNumber Beq ≤ kind) × (kind ≤ kindNumber Bgeu) ⌝ }
+    ensures { λ r. ⌜ Branches (kindAt kind) r ⌝ }
+{
+    match kind {
+        BEQ => Operator::Eq,
+        BNE => Operator::Neq,
+        BLT => Operator::Slt,
+        BGE => Operator::Sgte,
+        BLTU => Operator::Ult,
+        _ => Operator::Ugte,
+    }
+}
+
+// The lines of a load or a store.
+fn model_access(
+    list: &mut [u64],
+    t: Tally,
+    e: Operands,
+    f: Flows,
+    imm: u64,
+    kind: u64,
+    z: bool,
+) -> Modeled
+    requires { ⌜ (kindNumber Lb ≤ kind) × (kind ≤ kindNumber Sd) ⌝ }
+    ensures { λ r. ⌜ ((d s : Bool) → Gives (now (list .entry)) t (model (operandsOf e) (flowsOf f) imm (kindAt kind) z d s) (now (list .exit)) (r .tally) (modeledOf r)) ⌝ }
+{
+    match kind {
         LD => models_load::model_ld(list, t, e, f, z, imm),
-        LBU => models_load::load(list, t, e, f, z, imm, 56, false),
-        LHU => models_load::load(list, t, e, f, z, imm, 48, false),
-        SB => models_store::store(list, t, e, f, z, imm, 0xff),
-        SH => models_store::store(list, t, e, f, z, imm, 0xffff),
-        SW => models_store::store(list, t, e, f, z, imm, 0xffff_ffff),
         SD => models_store::model_sd(list, t, e, f, z, imm),
+        ..=LHU => {
+            let part = loaded_part(kind);
+            models_load::load(list, t, e, f, z, imm, part.spare, part.signed)
+        }
+        _ => {
+            let ones = stored_ones(kind);
+            models_store::store(list, t, e, f, z, imm, ones)
+        }
+    }
+}
+
+// How many bits of a word are above those that are loaded, and whether these are signed.
+struct Part {
+    spare: u64,
+    signed: bool,
+}
+
+fn loaded_part(kind: u64) -> Part
+    requires { ⌜ (kindNumber Lb ≤ kind) × (kind ≤ kindNumber Lhu) × ¬ (kind ≡ kindNumber Ld) ⌝ }
+    ensures { λ r. ⌜ Loads (kindAt kind) (r .spare) (r .signed) ⌝ }
+{
+    match kind {
+        LB => Part {
+            spare: 56,
+            signed: true,
+        },
+        LH => Part {
+            spare: 48,
+            signed: true,
+        },
+        LW => Part {
+            spare: 32,
+            signed: true,
+        },
+        LBU => Part {
+            spare: 56,
+            signed: false,
+        },
+        _ => Part {
+            spare: 48,
+            signed: false,
+        },
+    }
+}
+
+// Ones at the bits that are stored.
+fn stored_ones(kind: u64) -> u64
+    requires { ⌜ (kindNumber Sb ≤ kind) × (kind ≤ kindNumber Sw) ⌝ }
+    ensures { λ r. ⌜ Stores (kindAt kind) r ⌝ }
+{
+    match kind {
+        SB => 0xff,
+        SH => 0xffff,
+        _ => 0xffff_ffff,
+    }
+}
+
+// The lines of a kind that takes a register and an immediate.
+fn model_immediate(
+    list: &mut [u64],
+    t: Tally,
+    e: Operands,
+    f: Flows,
+    imm: u64,
+    kind: u64,
+    z: bool,
+    d: bool,
+    s: bool,
+) -> Modeled
+    requires { ⌜ (kindNumber Addi ≤ kind) × (kind ≤ kindNumber Sraiw) ⌝ }
+    ensures { λ r. ⌜ Gives (now (list .entry)) t (model (operandsOf e) (flowsOf f) imm (kindAt kind) z d s) (now (list .exit)) (r .tally) (modeledOf r) ⌝ }
+{
+    match kind {
         ADDI => models_addition::model_addi(list, t, e, f, imm, d, z, s),
         SLTIU => models_immediate::model_sltiu(list, t, e, f, imm),
-        XORI => models_immediate::with_constant(list, t, Operator::Xor, e, f, imm),
-        ORI => models_immediate::with_constant(list, t, Operator::Or, e, f, imm),
-        ANDI => models_immediate::with_constant(list, t, Operator::And, e, f, imm),
-        SLLI => models_immediate::with_constant(list, t, Operator::Sll, e, f, imm),
-        SRLI => models_immediate::with_constant(list, t, Operator::Srl, e, f, imm),
-        SRAI => models_immediate::with_constant(list, t, Operator::Sra, e, f, imm),
         ADDIW => models_addition::model_addiw(list, t, e, f, imm),
         SLLIW => models_shift32::model_slliw(list, t, e, f, imm),
         SRLIW => models_shift32::shifted_back(list, t, Operator::Srl, e, f, imm),
         SRAIW => models_shift32::shifted_back(list, t, Operator::Sra, e, f, imm),
+        _ => {
+            let operator = immediate_operator(kind);
+            models_immediate::with_constant(list, t, operator, e, f, imm)
+        }
+    }
+}
+
+fn immediate_operator(kind: u64) -> Operator
+    requires { ⌜ (kindNumber Xori ≤ kind) × (kind ≤ kindNumber Srai) ⌝ }
+    ensures { λ r. ⌜ TakesConstant (kindAt kind) r ⌝ }
+{
+    match kind {
+        XORI => Operator::Xor,
+        ORI => Operator::Or,
+        ANDI => Operator::And,
+        SLLI => Operator::Sll,
+        SRLI => Operator::Srl,
+        _ => Operator::Sra,
+    }
+}
+
+// The lines of a kind that takes two registers, but for products and words of 32 bits.
+fn model_register(list: &mut [u64], t: Tally, e: Operands, f: Flows, kind: u64) -> Modeled
+    requires { ⌜ (kindNumber Add ≤ kind) × (kind ≤ kindNumber And) ⌝ }
+    ensures { λ r. ⌜ ((imm : ℕ) (z d s : Bool) → Gives (now (list .entry)) t (model (operandsOf e) (flowsOf f) imm (kindAt kind) z d s) (now (list .exit)) (r .tally) (modeledOf r)) ⌝ }
+{
+    match kind {
         ADD => models_word::summed(list, t, Bin::Add, e, f),
         SUB => models_word::summed(list, t, Bin::Sub, e, f),
         SLL => models_register::shifted(list, t, Operator::Sll, e, f),
@@ -116,7 +244,16 @@ fn model_kind(
         SRL => models_register::shifted(list, t, Operator::Srl, e, f),
         SRA => models_register::shifted(list, t, Operator::Sra, e, f),
         OR => models_register::with_register(list, t, Operator::Or, e, f),
-        AND => models_register::with_register(list, t, Operator::And, e, f),
+        _ => models_register::with_register(list, t, Operator::And, e, f),
+    }
+}
+
+// The lines of a product, a quotient, a remainder, or of a kind for words of 32 bits.
+fn model_product(list: &mut [u64], t: Tally, e: Operands, f: Flows, kind: u64) -> Modeled
+    requires { ⌜ (kindNumber Mul ≤ kind) × (kind ≤ kindNumber Mulw) ⌝ }
+    ensures { λ r. ⌜ ((imm : ℕ) (z d s : Bool) → Gives (now (list .entry)) t (model (operandsOf e) (flowsOf f) imm (kindAt kind) z d s) (now (list .exit)) (r .tally) (modeledOf r)) ⌝ }
+{
+    match kind {
         MUL => models_product::model_mul(list, t, e, f),
         DIV => models_division::divided(list, t, Bin::Div, e, f),
         DIVU => models_division::divided(list, t, Bin::Divu, e, f),
@@ -125,16 +262,7 @@ fn model_kind(
         DIVW => models_division::model_divw(list, t, e, f),
         SUBW => models_word::summed_word(list, t, Bin::Sub, e, f),
         SLLW => models_word::model_sllw(list, t, e, f),
-        MULW => models_product::model_mulw(list, t, e, f),
-        BEQ => models_control::model_branch(list, t, Operator::Eq, e, f),
-        BNE => models_control::model_branch(list, t, Operator::Neq, e, f),
-        BLT => models_control::model_branch(list, t, Operator::Slt, e, f),
-        BGE => models_control::model_branch(list, t, Operator::Sgte, e, f),
-        BLTU => models_control::model_branch(list, t, Operator::Ult, e, f),
-        BGEU => models_control::model_branch(list, t, Operator::Ugte, e, f),
-        JAL => models_constant::link(list, t, f, imm, d),
-        JALR => models_constant::link(list, t, f, imm, d),
-        _ => models_control::model_ecall(list, t, e, f),
+        _ => models_product::model_mulw(list, t, e, f),
     }
 }
 
