@@ -57,7 +57,7 @@ pub fn list_instructions() {
     let mut line = [0u8; LINE];
     let mut out = [0u8; OUT];
     listing_start::put_start(&mut list);
-    list_from(
+    let run = read_all(
         &mut list,
         &mut names,
         &mut edges,
@@ -67,48 +67,25 @@ pub fn list_instructions() {
         &mut out,
         start_reading(),
     );
-}
-
-// From the listing's start, with its storage.
-fn list_from(
-    list: &mut [u64],
-    names: &mut [u8],
-    edges: &mut [u64],
-    dispatches: &mut [u64],
-    bads: &mut [u64],
-    line: &mut [u8],
-    out: &mut [u8],
-    reading: Reading,
-)
-    requires { ⌜ progress (lent (now list) (now names) (now edges) (now dispatches) (now bads)) (now line) reading ≡ start ⌝ }
-    requires { ⌜ length (now out) ≡ outRoom ⌝ }
-{
-    let run = read_all(list, names, edges, dispatches, bads, line, out, reading);
     // After a write that failed nothing more is written.
     if run.written {
         let after = run.reading;
-        write_last(list, names, edges, dispatches, bads, line, out, after);
+        let e = end_input(
+            &mut list,
+            &mut names,
+            &mut edges,
+            &mut dispatches,
+            &mut bads,
+            &line,
+            &mut out,
+            after,
+        );
+        let n = e.length;
+        io::write_all(STDOUT_FILENO, &out[..n]);
     }
 }
 
-// Takes what is left of the last line, where the input has ended.
-fn write_last(
-    list: &mut [u64],
-    names: &mut [u8],
-    edges: &mut [u64],
-    dispatches: &mut [u64],
-    bads: &mut [u64],
-    line: &[u8],
-    out: &mut [u8],
-    reading: Reading,
-)
-    requires { ⌜ length (now out) ≡ outRoom ⌝ }
-{
-    let e = end_input(list, names, edges, dispatches, bads, line, out, reading);
-    let n = e.length;
-    io::write_all(STDOUT_FILENO, &out[..n]);
-}
-
+// Reads to the input's end, from the listing's start, with its storage.
 fn read_all(
     list: &mut [u64],
     names: &mut [u8],
@@ -119,6 +96,7 @@ fn read_all(
     out: &mut [u8],
     reading: Reading,
 ) -> Run
+    requires { ⌜ progress (lent (now list) (now names) (now edges) (now dispatches) (now bads)) (now line) reading ≡ start ⌝ }
     requires { ⌜ length (now out) ≡ outRoom ⌝ }
     ensures { λ r. ⌜ Reaches (progress (lent (now (list .entry)) (now (names .entry)) (now (edges .entry)) (now (dispatches .entry)) (now (bads .entry))) (now (line .entry)) reading) (progress (lent (now (list .exit)) (now (names .exit)) (now (edges .exit)) (now (dispatches .exit)) (now (bads .exit))) (now (line .exit)) (r .reading)) ⌝ }
 {
