@@ -25,4 +25,5 @@ returns-2 c =
 pub lower-all-spec : {M : Type 1} → statement M
 lower-all-spec =
     tie.close
-    (tie.spec returns (λ c κs. search needs) (λ c κs. search needs) (λ c. search needs) (λ c. search needs) (λ c. search needs) (λ c. search needs) (λ c. search needs) (λ c. search needs) returns-2)
+    (tie.spec returns (λ c κs. search needs) (λ c κs. search needs)
+    (λ c. c .before .before .before .before .before .before .before .before .before .before .before .before .lower-rest .kept .0) (λ c. c .before .before .before .before .before .before .before .before .before .before .before .before .lower-rest .kept .1 .0) (λ c. c .before .before .before .before .before .before .before .before .before .before .before .before .lower-rest .kept .1 .1 .0) (λ c. c .before .before .before .before .before .before .before .before .before .before .before .before .lower-rest .kept .1 .1 .1 .0) (λ c. c .before .before .before .before .before .before .before .before .before .before .before .before .lower-rest .kept .1 .1 .1 .1 .0) (λ c. c .before .before .before .before .before .before .before .before .before .before .before .before .lower-rest .kept .1 .1 .1 .1 .1 .0) returns-2)

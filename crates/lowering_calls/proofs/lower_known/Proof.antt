@@ -1,5 +1,5 @@
 -- Refused, nothing is written; else what the call gives is put into the words. Assumes nothing.
-use mathlib.Core.Path.{ap, _∙_}
+use mathlib.Core.Path.{refl, ap, _∙_}
 use denote.Ref.{now}
 use borrow.Author.Needs.{needs}
 use borrow.Author.Tests.{lt-ltb}
@@ -48,4 +48,6 @@ returns-3 c =
 pub lower-known-spec : {M : Type 1} → statement M
 lower-known-spec =
     tie.close
-    (tie.spec returns (λ c κs. search needs) (λ c κs. search needs) (λ c κs. search needs) (λ c κs. search needs) (λ c. search needs) (λ c. search needs) (λ c. search needs) (λ c. search needs) (λ c. search needs) (λ c. search needs) returns-2 (λ c κs. search needs) (λ c. search needs) (λ c. search needs) (λ c. search needs) (λ c. search needs) (λ c. search needs) (λ c. search needs) returns-3)
+    (tie.spec returns (λ c κs. search needs) (λ c κs. search needs) (λ c κs. search needs) (λ c κs. search needs)
+    (λ c. c .before .before .before .before .before .before .before .before .before .before .before .lower-apart .kept .0) (λ c. c .before .before .before .before .before .before .before .before .before .before .before .lower-apart .kept .1 .0) (λ c. c .before .before .before .before .before .before .before .before .before .before .before .lower-apart .kept .1 .1 .0) (λ c. c .before .before .before .before .before .before .before .before .before .before .before .lower-apart .kept .1 .1 .1 .0) (λ c. c .before .before .before .before .before .before .before .before .before .before .before .lower-apart .kept .1 .1 .1 .1 .0) (λ c. refl) returns-2 (λ c κs. search needs)
+    (λ c. c .before .before .before .before .before .before .before .before .before .before .before .before .before .before .before .lower-apart .kept .0) (λ c. c .before .before .before .before .before .before .before .before .before .before .before .before .before .before .before .lower-apart .kept .1 .0) (λ c. c .before .before .before .before .before .before .before .before .before .before .before .before .before .before .before .lower-apart .kept .1 .1 .0) (λ c. c .before .before .before .before .before .before .before .before .before .before .before .before .before .before .before .lower-apart .kept .1 .1 .1 .0) (λ c. c .before .before .before .before .before .before .before .before .before .before .before .before .before .before .before .lower-apart .kept .1 .1 .1 .1 .0) (λ c. c .before .before .put-apart .kept .0) returns-3)

@@ -64,7 +64,7 @@ loop-again c =
     let gave = given (call .lower-known .result) (lent (call .lower-known .last .0) (call .lower-known .last .1 .0) (call .lower-known .last .1 .1 .0) (call .lower-known .last .1 .1 .1 .0) (call .lower-known .last .1 .1 .1 .1 .0)) (call .lower-known .last .1 .1 .1 .1 .1 .0) in
     let next = callIn (drop (at .loop .done * 7) (now (a .calls))) in
     let left = callsIn (length (now (a .calls)) / 7 - (at .loop .done + 1)) (drop ((at .loop .done + 1) * 7) (now (a .calls))) in (
-      (search needs, search needs, search needs, search needs, search needs, search needs),
+      (call .lower-known .kept .0 ∙ at .loop .inv .0 .0, call .lower-known .kept .1 .0 ∙ at .loop .inv .0 .1, call .lower-known .kept .1 .1 .0 ∙ at .loop .inv .0 .2, call .lower-known .kept .1 .1 .1 .0 ∙ at .loop .inv .0 .3, call .lower-known .kept .1 .1 .1 .1 .0 ∙ at .loop .inv .0 .4, call .lower-known .kept .1 .1 .1 .1 .1 .0 ∙ at .loop .inv .0 .5),
       omega arith,
       refl,
       goes-on (a .fits) here (at .loop .state) next gave (rw (← told .call-at .ensures .0, ← told .call-at .ensures .1 .0, ← told .call-at .ensures .1 .1) (call .lower-known .ensures)) (at .loop .done) left (c .if1 .left)
@@ -89,20 +89,20 @@ lower-rest-spec =
     loop-holds
     call-at-requires
     (λ c κs. search needs)
-    (λ c. search needs)
-    (λ c. search needs)
-    (λ c. search needs)
-    (λ c. search needs)
-    (λ c. search needs)
-    (λ c. search needs)
+    (λ c. c .before .before .before .before .before .before .before .before .before .before .before .before .before .lower-known .kept .0 ∙ c .before .before .before .before .before .before .before .before .before .before .before .before .before .before .before .before .before .before .before .before .before .before .before .before .loop .inv .0 .0)
+    (λ c. c .before .before .before .before .before .before .before .before .before .before .before .before .before .lower-known .kept .1 .0 ∙ c .before .before .before .before .before .before .before .before .before .before .before .before .before .before .before .before .before .before .before .before .before .before .before .before .loop .inv .0 .1)
+    (λ c. c .before .before .before .before .before .before .before .before .before .before .before .before .before .lower-known .kept .1 .1 .0 ∙ c .before .before .before .before .before .before .before .before .before .before .before .before .before .before .before .before .before .before .before .before .before .before .before .before .loop .inv .0 .2)
+    (λ c. c .before .before .before .before .before .before .before .before .before .before .before .before .before .lower-known .kept .1 .1 .1 .0 ∙ c .before .before .before .before .before .before .before .before .before .before .before .before .before .before .before .before .before .before .before .before .before .before .before .before .loop .inv .0 .3)
+    (λ c. c .before .before .before .before .before .before .before .before .before .before .before .before .before .lower-known .kept .1 .1 .1 .1 .0 ∙ c .before .before .before .before .before .before .before .before .before .before .before .before .before .before .before .before .before .before .before .before .before .before .before .before .loop .inv .0 .4)
+    (λ c. c .before .before .before .before .before .before .before .before .before .before .before .before .before .lower-known .kept .1 .1 .1 .1 .1 .0 ∙ c .before .before .before .before .before .before .before .before .before .before .before .before .before .before .before .before .before .before .before .before .before .before .before .before .loop .inv .0 .5)
     returns
     add-done
     (λ c. search needs)
     loop-again
-    (λ c. search needs)
-    (λ c. search needs)
-    (λ c. search needs)
-    (λ c. search needs)
-    (λ c. search needs)
-    (λ c. search needs)
+    (λ c. c .before .loop .inv .0 .0)
+    (λ c. c .before .loop .inv .0 .1)
+    (λ c. c .before .loop .inv .0 .2)
+    (λ c. c .before .loop .inv .0 .3)
+    (λ c. c .before .loop .inv .0 .4)
+    (λ c. c .before .loop .inv .0 .5)
     returns-2)

@@ -17,4 +17,5 @@ returns c =
 pub lower-words-spec : {M : Type 1} → statement M
 lower-words-spec =
     tie.close
-    (tie.spec (λ c κs. search needs) (λ c κs. search needs) (λ c. search needs) (λ c. search needs) (λ c. search needs) (λ c. search needs) (λ c. search needs) (λ c. search needs) returns)
+    (tie.spec (λ c κs. search needs) (λ c κs. search needs)
+    (λ c. c .before .before .before .before .before .before .before .before .before .before .before .before .lower-known .kept .0) (λ c. c .before .before .before .before .before .before .before .before .before .before .before .before .lower-known .kept .1 .0) (λ c. c .before .before .before .before .before .before .before .before .before .before .before .before .lower-known .kept .1 .1 .0) (λ c. c .before .before .before .before .before .before .before .before .before .before .before .before .lower-known .kept .1 .1 .1 .0) (λ c. c .before .before .before .before .before .before .before .before .before .before .before .before .lower-known .kept .1 .1 .1 .1 .0) (λ c. c .before .before .before .before .before .before .before .before .before .before .before .before .lower-known .kept .1 .1 .1 .1 .1 .0) returns)

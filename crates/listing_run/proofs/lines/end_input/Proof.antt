@@ -15,4 +15,5 @@ unfolding inputEnded
 returns-2 c = let e = c .before .before .before .before .before .before .before .before .before .before .before .before in rw (ne-eqb _ 0 (e .before .before .before .before .before .before .before .if1 .left)) (e .end-line .ensures)
 
 pub end-input-spec : {M : Type 1} → statement M
-end-input-spec = tie.close (tie.spec returns (λ c κs. search needs) (λ c. search needs) (λ c. search needs) (λ c. search needs) (λ c. search needs) (λ c. search needs) (λ c. search needs) returns-2)
+end-input-spec = tie.close (tie.spec returns (λ c κs. search needs)
+    (λ c. c .before .before .before .before .before .before .before .before .before .before .before .before .end-line .kept .0) (λ c. c .before .before .before .before .before .before .before .before .before .before .before .before .end-line .kept .1 .0) (λ c. c .before .before .before .before .before .before .before .before .before .before .before .before .end-line .kept .1 .1 .0) (λ c. c .before .before .before .before .before .before .before .before .before .before .before .before .end-line .kept .1 .1 .1 .0) (λ c. c .before .before .before .before .before .before .before .before .before .before .before .before .end-line .kept .1 .1 .1 .1 .0) (λ c. c .before .before .before .before .before .before .before .before .before .before .before .before .end-line .kept .1 .1 .1 .1 .1 .1 .0) returns-2)

@@ -24,4 +24,5 @@ returns c =
     let e = rw own at (s .ensures) in (same-progress (now (a .line)) 0 (e .1 .0) (e .0) (c .wrapping-add-u64 .ensures), e .1 .1)
 
 pub end-line-spec : {M : Type 1} → statement M
-end-line-spec = tie.close (tie.spec (λ c κs. search needs) slice-aggregate-step (λ c κs. search needs) (λ c κs. search needs) (λ c. search needs) (λ c. search needs) (λ c. search needs) (λ c. search needs) (λ c. search needs) (λ c. search needs) returns)
+end-line-spec = tie.close (tie.spec (λ c κs. search needs) slice-aggregate-step (λ c κs. search needs) (λ c κs. search needs)
+    (λ c. c .before .before .before .before .before .before .before .before .before .before .before .before .before .before .step .kept .0) (λ c. c .before .before .before .before .before .before .before .before .before .before .before .before .before .before .step .kept .1 .0) (λ c. c .before .before .before .before .before .before .before .before .before .before .before .before .before .before .step .kept .1 .1 .0) (λ c. c .before .before .before .before .before .before .before .before .before .before .before .before .before .before .step .kept .1 .1 .1 .0) (λ c. c .before .before .before .before .before .before .before .before .before .before .before .before .before .before .step .kept .1 .1 .1 .1 .0) (λ c. c .before .before .before .before .before .before .before .before .before .before .before .before .before .before .step .kept .1 .1 .1 .1 .1 .0) returns)

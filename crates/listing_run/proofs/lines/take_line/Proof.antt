@@ -38,4 +38,6 @@ returns-2 c =
     (held-is p (g .ensures .0) ∙ sym (ap (λ (u : Told). u .progress) is), (put-as (record { list = refl; next = refl }) (sym (ap (λ (u : Told). u .text) is)), g .ensures .1 .0))
 
 pub take-line-spec : {M : Type 1} → statement M
-take-line-spec = tie.close (tie.spec (λ c κs. search needs) (λ c κs. search needs) (λ c. search needs) (λ c. search needs) (λ c. search needs) (λ c. search needs) (λ c. search needs) (λ c. search needs) (λ c. search needs) returns (λ c. search needs) returns-2)
+take-line-spec = tie.close (tie.spec (λ c κs. search needs) (λ c κs. search needs)
+    (λ c. c .before .before .before .before .before .before .before .before .before .before .before .before .before .end-line .kept .0) (λ c. c .before .before .before .before .before .before .before .before .before .before .before .before .before .end-line .kept .1 .0) (λ c. c .before .before .before .before .before .before .before .before .before .before .before .before .before .end-line .kept .1 .1 .0) (λ c. c .before .before .before .before .before .before .before .before .before .before .before .before .before .end-line .kept .1 .1 .1 .0) (λ c. c .before .before .before .before .before .before .before .before .before .before .before .before .before .end-line .kept .1 .1 .1 .1 .0) (λ c. c .before .before .before .before .before .before .before .before .before .before .before .before .before .before .before .before .before .before .before .before .before .before .before .before .before .gather .kept .0) (λ c. c .before .before .before .before .before .before .before .before .before .before .before .before .before .end-line .kept .1 .1 .1 .1 .1 .1 .0)
+    returns (λ c. c .before .before .before .before .gather .kept .0) returns-2)

@@ -24,4 +24,5 @@ returns c =
 pub accept-spec : {M : Type 1} → statement M
 accept-spec =
     tie.close
-    (tie.spec (λ c κs. search needs) (λ c κs. search needs) (λ c κs. search needs) put-indirect-requires counts-after-requires (λ c. search needs) (λ c. search needs) (λ c. search needs) (λ c. search needs) (λ c. search needs) returns)
+    (tie.spec (λ c κs. search needs) (λ c κs. search needs) (λ c κs. search needs) put-indirect-requires counts-after-requires
+    (λ c. c .before .before .before .before .before .before .before .before .before .before .before .before .before .before .before .before .before .before .before .before .before .lower-lines .kept .0) (λ c. c .before .before .before .before .before .before .before .before .before .put-indirect .kept .0) (λ c. c .before .before .before .before .before .before .before .before .before .before .before .before .before .before .before .before .before .go-to-instructions .kept .0) (λ c. c .before .before .before .before .before .before .before .before .before .put-indirect .kept .1 .0) (λ c. c .before .before .before .before .before .before .before .before .before .put-indirect .kept .1 .1 .0) returns)

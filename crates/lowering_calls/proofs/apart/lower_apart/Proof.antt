@@ -51,4 +51,5 @@ returns-2 c =
 pub lower-apart-spec : {M : Type 1} → statement M
 lower-apart-spec =
     tie.close
-    (tie.spec (λ c κs. search needs) (λ c κs. search needs) (λ c κs. search needs) (λ c. search needs) returns accept-requires (λ c. search needs) (λ c. search needs) (λ c. search needs) (λ c. search needs) (λ c. search needs) returns-2)
+    (tie.spec (λ c κs. search needs) (λ c κs. search needs) (λ c κs. search needs) (λ c. search needs) returns accept-requires
+    (λ c. c .before .before .before .before .before .before .before .before .before .before .accept .kept .0) (λ c. c .before .before .before .before .before .before .before .before .before .before .accept .kept .1 .0) (λ c. c .before .before .before .before .before .before .before .before .before .before .accept .kept .1 .1 .0) (λ c. c .before .before .before .before .before .before .before .before .before .before .accept .kept .1 .1 .1 .0) (λ c. c .before .before .before .before .before .before .before .before .before .before .accept .kept .1 .1 .1 .1 .0) returns-2)
