@@ -143,6 +143,52 @@ test("nodes", run(NODES, "--nodes", "0", str(len(NODES))), TEXT)
 test("a run of nodes", run(NODES, "--nodes", "19", "3"), TEXT[19:23])
 test("no nodes", run(NODES, "--nodes", "25", "0"), [])
 
+# Joins: the Rust's control_flow_from_* functions, by the commands of joins.rs. On the listing's start 0 and 1 are the places of the bits, 2 and 3
+# those of the words, 38 is the flag's, and 39 to 41 are Bit states that stand after it.
+FLAGS = [f"node {59 + n} 19 1 0 0 0 0 =" for n in range(3)]
+FLAGS += ["cut 42 62", "kernel 39 40", "dynamics " + " ".join(["38"] * 30 + ["41"]), "flags 8 38 12 39 8 40 16 0"]
+
+
+def joins(*lines):
+    return run([*FLAGS, *lines], "--join")
+
+
+test("an empty join", joins("join 41"), ["; sequentials", "; flow 61", "; next 62"])
+test("a regular edge for the zero bit", joins("join 0 edge 8 regular -"), ["; sequentials", "; flow 58", "; next 62"])
+test("a regular edge", joins("join 1 edge 8 regular -"), ["62 ite 1 58 21 21", "; sequentials", "; flow 62", "; next 63"])
+test("a branch", joins("join 0 edge 12 branch 41"), ["62 and 1 59 61", "; sequentials", "; flow 62", "; next 63"])
+test("a syscall", joins("join 41 edge 12 syscall -"), [
+    "62 state 1 kernel-mode-pc-flag-12", "63 init 1 62 20", "64 ite 1 62 59 59", "65 next 1 62 64", "66 and 1 62 60", "67 ite 1 66 21 61",
+    "; sequentials 65", "; flow 67", "; next 68"])
+test("a dispatch", joins("join 41 dispatch 31 2"), [
+    "62 eq 1 54 22", "63 and 1 61 62", "64 ite 1 63 21 61", "; sequentials", "; flow 64", "; next 65"])
+test("the first flag counts", joins("flags 8 41 8 38", "join 0 edge 8 regular -")[1], "; flow 61")
+test("the zero bit's own line, on the way", joins("join 0 edge 16 regular - edge 8 regular - edge 12 regular -")[:1], ["62 ite 1 59 21 58"])
+another_zero = ["node 62 1 1 0 0 0 0 -", "cut 43 63", "flags 4 42 8 38"]
+test("another line of value 0", joins(*another_zero, "join 0 edge 4 regular - edge 8 regular -")[:1], ["63 ite 1 58 21 62"])
+test("edges, then dispatches", joins("join 0 dispatch 1 2 edge 8 regular -")[-4:-3], ["64 ite 1 63 21 58"])
+test("equal sources", [line for line in joins("join 0 edge 8 syscall - edge 8 syscall -") if "state" in line or line[0] == ";"], [
+    "62 state 1 kernel-mode-pc-flag-8", "67 state 1 kernel-mode-pc-flag-8", "; sequentials 65 70", "; flow 72", "; next 73"])
+test("the flow of a join in the next", joins("join 1 edge 8 regular -", "join 42 edge 12 branch 42")[-5:-3], ["63 and 1 59 62", "64 ite 1 63 21 62"])
+test("lines cut off", joins("join 1 edge 8 regular -", "cut 42 62", "join 1 edge 12 regular -")[-4], "62 ite 1 59 21 21")
+top = 2**64 - 1
+test("the largest address", joins(f"flags {top} 38", f"join 0 edge {top} syscall -")[0], f"62 state 1 kernel-mode-pc-flag-{top}")
+test("another zero bit and register", joins("role 0 41", "role 8 2", "join 41 edge 8 regular - dispatch 1 3")[0], "62 eq 1 22 23")
+PANICS = {"a source without a flag": "edge 4 regular -", "a branch without a condition": "edge 8 branch -", "a dispatch of x0": "dispatch 0 2"}
+for name, words in PANICS.items():
+    test(f"{name} panics, and leaves no trace", joins(f"join 1 edge 8 syscall - {words}", "join 1 edge 8 regular -"), [
+        "; panic", "62 ite 1 58 21 21", "; sequentials", "; flow 62", "; next 63"])
+# The start apart ends with the one bit, at 80, and the zero bit, at 81; its flag stands at 2.
+one, zero = new - 2, new - 1
+test("bits of the start apart", nids[:2], [zero, one])
+test("the zero bit of the start apart", run(["flags 8 2", "join 81 edge 8 regular -", "join 80 edge 8 regular -"], "--apart", "--join"), [
+    "; sequentials", f"; flow {flag[7:]}", f"; next {new}",
+    f"{new} ite 1 {flag[7:]} {one} {one}", "; sequentials", f"; flow {new}", f"; next {new + 1}"])
+for line in ["", "join", "join 42", "join 0 edge 8", "join 0 edge 8 other -", "join 0 dispatch 32 2", "join 0 dispatch 1 99", "role 2 0",
+             "role 0", "kernel 0", "kernel 0 1 2", "flags 8", "cut 43 62", "node 62", "else 0"]:
+    done = subprocess.run([ORACLE, "--join"], input="".join(text + "\n" for text in [*FLAGS, line]), capture_output=True, text=True)
+    test(f"no command: {line!r}", (done.returncode, done.stdout, done.stderr), (2, "", f"oracle: no command: {line}\n"))
+
 # Generated lines: identifiers rise by one, and a refused line leaves no trace.
 for seed in range(1, 6):
     more = [] if seed < 5 else ["--negative-amounts"]

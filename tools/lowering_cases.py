@@ -43,6 +43,8 @@ NO_CONDITION = TOP
 LOWER = 1  # the program's command
 IN_A_BATCH = 20
 FLOWS = 39  # the role of x1's flow, the first that a lowering changes
+NO_NAME = (0, 0, 0)  # area, place and length
+OURS = 2  # the area of names that a call puts
 
 
 #
@@ -55,6 +57,24 @@ def oracle(arguments, lines=()):
     text = "".join(" ".join(map(str, line)) + "\n" for line in lines)
     run = subprocess.run([DIFFERENTIAL / "target" / "oracle", *arguments], input=text, capture_output=True, text=True, check=True)
     return run.stdout.splitlines()
+
+
+def record_numbers(text, place, name=NO_NAME):
+    """The ten numbers of a printed node line as its record is read. `place` gives the place of an identifier, `name` says where its name lies."""
+    nid, operator, *rest = text.split()
+    sort = 0 if operator == "bad" else int(rest.pop(0))
+    if operator == "uext":  # printed with the bits that it adds; the record has the sort that it extends
+        sort = SORT_OF_WIDTH[64 - int(rest.pop())]
+    # a constant, and the place and the length of a name, stand where other lines have operands
+    if operator == "constd":
+        operands = [int(rest[0])]
+    elif operator in ("state", "input"):
+        operands = []
+    else:
+        operands = [place(o) for o in (rest[:1] if operator == "bad" else rest)]
+    first, *others = operands + [0] * (3 - len(operands))
+    others = others if name == NO_NAME else name[1:]
+    return (int(nid), OPERATORS.index(operator) + 1, sort, first, *others, first, name[0], *others)
 
 
 class Start:
@@ -132,30 +152,15 @@ class Batch:
     def record(self, text):
         """The numbers of a node line as its record is read, and its name where it is bad."""
         nid, operator, *rest = text.split()
-        assert int(nid) == self.rust and self.lines < HOLDS
-        kind = OPERATORS.index(operator) + 1
-        imm, name = 0, (0, 0, 0)
-        if operator == "bad":
-            sort, operands, label = 0, rest[:1], rest[1]
-            name = (2, self.names, len(label))
-            self.names += len(label)
-            after = [label]
-        else:
-            sort, operands, after = int(rest[0]), rest[1:], []
-            assert operator not in ("state", "next", "input")
-        if operator == "constd":
-            imm, operands = int(operands[0]), []
-        if operator == "uext":  # printed with the bits that it adds; the record has the sort that it extends
-            sort, operands = SORT_OF_WIDTH[64 - int(operands[1])], operands[:1]
-        first, *others = [self.place(o) for o in operands] + [0] * (3 - len(operands))
-        # a constant, and the place and the length of a name, stand where other lines have operands
-        first = imm if operator == "constd" else first
-        others = name[1:] if operator == "bad" else others
-        numbers = (self.nid, kind, sort, first, *others, first, name[0], *others)
+        assert int(nid) == self.rust and self.lines < HOLDS and operator not in ("state", "next", "input")
+        label = rest[1] if operator == "bad" else ""
+        name = (OURS, self.names, len(label)) if label else NO_NAME
+        numbers = (self.nid, *record_numbers(text, self.place, name)[1:])
+        self.names += len(label)
         self.lines += 1
         self.nid += 1
         self.rust += 1
-        return [" ".join(map(str, numbers))] + after
+        return [" ".join(map(str, numbers))] + [label] * (operator == "bad")
 
     def accepted(self, printed, flows):
         out, edges, dispatches, bads = [], self.edges, self.dispatches, 0

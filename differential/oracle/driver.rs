@@ -10,7 +10,7 @@ pub(super) type Answer<T> = std::result::Result<T, &'static str>;
 
 const MALFORMED: &str = "; malformed"; // not the listing's grammar
 const UNENCODABLE: &str = "; unencodable"; // a record that no instruction word holds, so that riscu never hands it on
-const PANIC: &str = "; panic"; // the Rust panics
+pub(super) const PANIC: &str = "; panic"; // the Rust panics
 
 pub(super) struct Line {
     pub(super) address: u64,
@@ -224,7 +224,7 @@ fn start_apart() -> (ModelBuilder, NodeRef) {
     (b, flag)
 }
 
-fn chosen(apart: bool) -> (ModelBuilder, NodeRef) {
+pub(super) fn chosen(apart: bool) -> (ModelBuilder, NodeRef) {
     if apart {
         start_apart()
     } else {
@@ -250,7 +250,7 @@ pub(super) fn single_flows(b: &mut ModelBuilder) -> [&mut NodeRef; 9] {
     ]
 }
 
-struct Saved {
+pub(super) struct Saved {
     lines: usize,
     sequentials: usize,
     bad_states: usize,
@@ -259,7 +259,7 @@ struct Saved {
     single_flows: Vec<NodeRef>,
 }
 
-fn save(b: &mut ModelBuilder) -> Saved {
+pub(super) fn save(b: &mut ModelBuilder) -> Saved {
     Saved {
         lines: b.lines.len(),
         sequentials: b.sequentials.len(),
@@ -270,7 +270,7 @@ fn save(b: &mut ModelBuilder) -> Saved {
     }
 }
 
-fn put_back(b: &mut ModelBuilder, saved: Saved) {
+pub(super) fn put_back(b: &mut ModelBuilder, saved: Saved) {
     b.lines.truncate(saved.lines);
     b.sequentials.truncate(saved.sequentials);
     b.bad_states.truncate(saved.bad_states);
@@ -319,11 +319,20 @@ pub fn node_lines_of(nodes: &[NodeRef]) -> io::Result<String> {
 
 static QUIET: AtomicBool = AtomicBool::new(false); // while the Rust runs, a panic's message is not written
 
-fn panics(b: &mut ModelBuilder, inst: Instruction) -> bool {
+pub(super) fn panics(rust: impl FnOnce()) -> bool {
     QUIET.store(true, Relaxed);
-    let outcome = catch_unwind(AssertUnwindSafe(|| b.translate_to_model(inst)));
+    let outcome = catch_unwind(AssertUnwindSafe(rust));
     QUIET.store(false, Relaxed);
     outcome.is_err()
+}
+
+pub(super) fn hide_panics() {
+    let usual = take_hook();
+    set_hook(Box::new(move |info| {
+        if !QUIET.load(Relaxed) {
+            usual(info)
+        }
+    }));
 }
 
 fn lower<W: Write>(b: &mut ModelBuilder, flag: &NodeRef, header: &str, line: &Line, out: &mut W) -> io::Result<()> {
@@ -334,7 +343,7 @@ fn lower<W: Write>(b: &mut ModelBuilder, flag: &NodeRef, header: &str, line: &Li
     b.control_in.clear();
     b.dynamic.iter_mut().for_each(Vec::clear);
 
-    if panics(b, line.inst) {
+    if panics(|| b.translate_to_model(line.inst)) {
         put_back(b, saved);
         return writeln!(out, "{}", PANIC);
     }
@@ -381,12 +390,7 @@ pub fn run(apart: bool, flows: Flows) -> io::Result<()> {
     let empty = printed(&[])?;
     let header = empty.strip_suffix(TRAILER).ok_or(io::Error::other("write_model: unknown trailer"))?;
 
-    let usual = take_hook();
-    set_hook(Box::new(move |info| {
-        if !QUIET.load(Relaxed) {
-            usual(info)
-        }
-    }));
+    hide_panics();
     for line in io::stdin().lock().split(b'\n') {
         match parse(&line?) {
             Ok(line) => lower(&mut b, &flag, header, &line, &mut out)?,
@@ -428,7 +432,7 @@ fn flows_of(b: &mut ModelBuilder) -> Vec<NodeRef> {
     registers.into_iter().chain(single_flows(b).into_iter().map(|flow| flow.clone())).collect()
 }
 
-fn named_nids<W: Write>(out: &mut W, name: &str, nodes: &[NodeRef]) -> io::Result<()> {
+pub(super) fn named_nids<W: Write>(out: &mut W, name: &str, nodes: &[NodeRef]) -> io::Result<()> {
     write!(out, "; {}", name)?;
     for node in nodes {
         write!(out, " {}", get_nid(node))?;

@@ -1,9 +1,9 @@
 mod nodes;
 mod unicorn;
 
-use unicorn::builder::{run, show_start, Flows};
+use unicorn::builder::{run, run_joins, show_start, Flows};
 
-const USAGE: &str = "usage: oracle [--apart] [--flows | --each] < lines, or oracle [--apart] --start, or oracle --nodes FROM COUNT < records";
+const USAGE: &str = "usage: oracle [--apart] [--flows | --each] < lines, or oracle [--apart] --start, or oracle [--apart] --join < commands, or oracle --nodes FROM COUNT < records";
 
 fn usage() -> ! {
     eprintln!("{}", USAGE);
@@ -22,6 +22,7 @@ fn main() {
         ["--flows"] => run(apart, Flows::Last),
         ["--each"] => run(apart, Flows::Each),
         ["--start"] => show_start(apart),
+        ["--join"] => run_joins(apart),
         ["--nodes", from, count] if !apart => match (from.parse(), count.parse()) {
             (Ok(from), Ok(count)) => nodes::run(from, count),
             _ => usage(),

@@ -6,7 +6,7 @@ use crate::unicorn::builder::node_lines_of;
 use crate::unicorn::{Nid, Node, NodeRef, NodeType};
 use std::io::{self, BufRead, Write};
 
-struct Record {
+pub struct Record {
     nid: Nid,
     kind: u64,
     sort: u64,
@@ -15,7 +15,7 @@ struct Record {
     name: Option<String>,
 }
 
-fn parse(line: &str) -> Option<Record> {
+pub fn parse(line: &str) -> Option<Record> {
     let mut fields = line.splitn(8, ' ');
     let mut number = || fields.next()?.parse::<u64>().ok();
     let (nid, kind, sort) = (number()?, number()?, number()?);
@@ -44,7 +44,7 @@ fn sort(number: u64) -> Option<NodeType> {
     })
 }
 
-fn node(record: Record, before: &[NodeRef]) -> Option<Node> {
+pub fn node(record: Record, before: &[NodeRef]) -> Option<Node> {
     let nid = record.nid;
     let own = || sort(record.sort);
     let op = |n: usize| before.get(record.places[n] as usize).cloned();

@@ -1,6 +1,7 @@
 -- BTOR2 node lines, over any type A of operands: what a line says, without its identifier. The 22 kinds are those of
 -- unicorn's `Node` other than Comment, under BTOR2's names (CAV 2018 paper, its table of operators).
 use Prim.Native.Nat.{ℕ}
+use mathlib.Core.Bool.{Bool, true, false, cond}
 use Rattle.btor2.specs.declared.Name.{Name}
 use Rattle.btor2.specs.declared.NodeType.{NodeType}
 use Rattle.btor2.specs.declared.NodeType.the-variants.{Bit, Word, Memory}
@@ -77,3 +78,25 @@ carried (next s a b) = NoSort
 carried (input s m) = Sort s
 carried (bad a m) = NoSort
 carried unknown = NoSort
+
+abbrev pub hasInit : {A : Type 0} → Op A → Bool
+hasInit (const s n) = false
+hasInit (read m a) = false
+hasInit (write m a v) = false
+hasInit (bin o a b) = false
+hasInit (uext s a) = false
+hasInit (ite s c a b) = false
+hasInit (eq a b) = false
+hasInit (and s a b) = false
+hasInit (or s a b) = false
+hasInit (not s a) = false
+hasInit (state s m) = false
+hasInit (stateInit s a m) = true
+hasInit (next s a b) = false
+hasInit (input s m) = false
+hasInit (bad a m) = false
+hasInit unknown = false
+
+-- how many identifiers a line takes (document 01, port order 1): "a State with an init takes two identifiers"
+abbrev pub identifiers : {A : Type 0} → Op A → ℕ
+identifiers o = cond (hasInit o) 2 1

@@ -36,6 +36,11 @@ row nid kind sort op1 op2 op3 imm name = record {
   name = name;
 }
 
+-- kinds are numbered from 1 in the order of `Node`
+
+abbrev pub stateKind : ℕ
+stateKind = 19
+
 abbrev pub binKind : Bin → ℕ
 binKind add = 4
 binKind sub = 5
@@ -47,7 +52,6 @@ binKind sll = 10
 binKind srl = 11
 binKind ult = 12
 
--- kinds are numbered from 1 in the order of `Node`
 abbrev pub lineOf : ℕ → Op ℕ → Line
 lineOf nid (const s n) = row nid 1 (sortNumber s) 0 0 0 n noName
 lineOf nid (read m a) = row nid 2 2 m a 0 0 noName
@@ -59,8 +63,8 @@ lineOf nid (eq a b) = row nid 15 1 a b 0 0 noName
 lineOf nid (and s a b) = row nid 16 (sortNumber s) a b 0 0 noName
 lineOf nid (or s a b) = row nid 17 (sortNumber s) a b 0 0 noName
 lineOf nid (not s a) = row nid 18 (sortNumber s) a 0 0 0 noName
-lineOf nid (state s m) = row nid 19 (sortNumber s) 0 0 0 0 m
-lineOf nid (stateInit s a m) = row nid 19 (sortNumber s) a 0 0 1 m
+lineOf nid (state s m) = row nid stateKind (sortNumber s) 0 0 0 0 m
+lineOf nid (stateInit s a m) = row nid stateKind (sortNumber s) a 0 0 1 m
 lineOf nid (next s a b) = row nid 20 (sortNumber s) a b 0 0 noName
 lineOf nid (input s m) = row nid 21 (sortNumber s) 0 0 0 0 m
 lineOf nid (bad a m) = row nid 22 0 a 0 0 0 m

@@ -11,7 +11,13 @@ use Rattle.btor2.specs.declared.Name.{Name}
 abbrev pub partOf : List ℕ → ℕ → ℕ → List ℕ
 partOf s at len = cond (leb (at + len) (length s)) (take len (drop at s)) []
 
--- area 1 is the host's, 2 ours
+-- the areas; a missing name has neither
+abbrev pub areaOfHost : ℕ
+areaOfHost = 1
+
+abbrev pub ourArea : ℕ
+ourArea = 2
+
 abbrev pub nameBytes : List ℕ → List ℕ → Name → List ℕ
 nameBytes host ours name =
-    cond (eqb (name .area) 1) (partOf host (name .at) (name .len)) (cond (eqb (name .area) 2) (partOf ours (name .at) (name .len)) [])
+    cond (eqb (name .area) areaOfHost) (partOf host (name .at) (name .len)) (cond (eqb (name .area) ourArea) (partOf ours (name .at) (name .len)) [])

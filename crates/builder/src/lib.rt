@@ -4,10 +4,11 @@ use btor2::Name;
 use btor2::Nid;
 use btor2::NodeRef;
 use btor2_list::Line;
+use btor2_list::STATE;
 ghost use mathlib.Core.Path.{_≡_};
 ghost use Rattle.btor2_list.specs.Node.{row};
 ghost use Rattle.program.specs.Prog.{ran};
-ghost use Rattle.builder.specs.Append.{appendLine, at, made};
+ghost use Rattle.builder.specs.Append.{takenBy, appendLine, at, made};
 
 // The count of lines, and the next identifier.
 pub struct Tally {
@@ -19,6 +20,19 @@ pub struct Tally {
 pub struct Made {
     pub tally: Tally,
     pub node: NodeRef,
+}
+
+// How many identifiers a line takes: a State with an init two.
+fn taken_by(kind: u64, imm: u64) -> u64
+    ensures { λ r. ⌜ r ≡ takenBy kind imm ⌝ }
+{
+    if kind == STATE {
+        if imm == 0 {
+            return 1;
+        }
+        return 2;
+    }
+    1
 }
 
 // The work of the append, with the tally by value: a line of these fields under the next identifier.
@@ -37,6 +51,7 @@ fn append_line(
 {
     let lines = given.lines;
     let nid = given.nid;
+    let taken = taken_by(kind, imm);
     let line = Line {
         nid: Nid(nid),
         kind,
@@ -51,7 +66,7 @@ fn append_line(
         return Made {
             tally: Tally {
                 lines: lines + 1,
-                nid: std::num::wrapping_add_u64(nid, 1),
+                nid: std::num::wrapping_add_u64(nid, taken),
             },
             node: NodeRef(lines),
         };

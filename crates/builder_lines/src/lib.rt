@@ -8,12 +8,14 @@ use btor2_list::BAD;
 use btor2_list::CONST;
 use btor2_list::EXT;
 use btor2_list::ITE;
+use btor2_list::NEXT;
+use btor2_list::STATE;
 use builder::Made;
 use builder::Tally;
 use builder::add_node;
 ghost use mathlib.Core.Path.{_≡_};
 ghost use Rattle.btor2_list.specs.Node.{row, noName};
-ghost use Rattle.program.specs.OneLine.{newConst, newExt, newIte, newBad};
+ghost use Rattle.program.specs.OneLine.{newConst, newExt, newIte, newState, newNext, newBad};
 ghost use Rattle.builder.specs.Append.{appendLine, at, made};
 ghost use Rattle.builder.specs.Gives.{Gives};
 
@@ -96,4 +98,27 @@ pub fn new_bad(list: &mut [u64], t: Tally, cond: NodeRef, name: Name) -> Made
     ensures { λ r. ⌜ Gives (now (list .entry)) t (newBad (cond .0) name) (now (list .exit)) (r .tally) (r .node .0) ⌝ }
 {
     add_node(list, t, BAD, 0, cond, NodeRef(0), NodeRef(0), 0, name)
+}
+
+// A State with an init, which takes two identifiers.
+pub fn new_state(list: &mut [u64], t: Tally, sort: NodeType, init: NodeRef, name: Name) -> Made
+    ensures { λ r. ⌜ Gives (now (list .entry)) t (newState sort (init .0) name) (now (list .exit)) (r .tally) (r .node .0) ⌝ }
+{
+    add_node(
+        list,
+        t,
+        STATE,
+        get_sort(sort),
+        init,
+        NodeRef(0),
+        NodeRef(0),
+        1,
+        name,
+    )
+}
+
+pub fn new_next(list: &mut [u64], t: Tally, sort: NodeType, state: NodeRef, value: NodeRef) -> Made
+    ensures { λ r. ⌜ Gives (now (list .entry)) t (newNext sort (state .0) (value .0)) (now (list .exit)) (r .tally) (r .node .0) ⌝ }
+{
+    plain(list, t, NEXT, get_sort(sort), state, value, NodeRef(0))
 }

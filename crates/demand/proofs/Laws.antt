@@ -15,10 +15,11 @@ use Rattle.lowering_refusals.specs.declared.State.{State}
 use Rattle.lowering_refusals.specs.Refusal.{refusalOf}
 use Rattle.lowering.specs.Lowering.{Lent, Answer, roomIn, programOf, settled, loweringGiven, lowering}
 use Rattle.lowering_laws.proofs.OneCall.{when-refused}
-use Rattle.demand.specs.Calls.{Held, Call, lower, lentFor, stateFor, answerTo, step, run}
+use Rattle.demand.specs.Calls.{Held, Call, lower, join, lentFor, stateFor, answerTo, step, run}
 use Rattle.demand.specs.Laws.{RefusedLeaves, NodesKept}
 use Rattle.roles_kept.proofs.RoleSets.{outcome-node, flows-there}
 use Rattle.demand.proofs.Step.{number, accepted-is, by-step}
+use Rattle.demand.proofs.JoinStep.{roles-join}
 
 pub refused-leaves : RefusedLeaves
 unfolding answerTo
@@ -40,6 +41,7 @@ node-step h (lower c) j l =
     by-step h c (λ b x. role (x .state .roles) j ≡ role (h .state .roles) j)
     (λ q. node-lowering (lentFor h c) (stateFor h c) (c .instruction) (c .address) (c .flag) q j l)
     refl
+node-step h (join c) j l = ap (λ rs. role rs j) (roles-join h c)
 
 pub nodes-kept : NodesKept
 unfolding run

@@ -18,7 +18,7 @@ use Rattle.roles.specs.Roles.{memoryNode, memoryFlow, roleCount, lastRegister, 
 use Rattle.lowering_refusals.specs.Refusal.{roomOf}
 use Rattle.start.specs.Start.{startRefusal}
 use Rattle.meaning.specs.Access.{InOneWord, excluded}
-use Rattle.demand.specs.Calls.{Held, linesIn, Request, Call, lower, accepted, step, run}
+use Rattle.demand.specs.Calls.{Held, linesIn, Request, Call, lower, join, accepted, step, run}
 
 -- ---- what is asked of the start and of the calls
 
@@ -37,6 +37,7 @@ pub record AcceptedStart (h : Held) : Type 0 where
 abbrev pub Records : List Call → Type 0
 Records [] = Unit {0}
 Records (lower c ∷ cs) = (c .instruction .imm < 2 ^ 64) × Records cs
+Records (join c ∷ cs) = Records cs
 
 abbrev pub kindOf : Request → Kind
 kindOf c = kindAt (c .instruction .kind)
@@ -45,6 +46,7 @@ kindOf c = kindAt (c .instruction .kind)
 abbrev pub NoneExcluded : Held → List Call → Type 0
 NoneExcluded h [] = Unit {0}
 NoneExcluded h (lower c ∷ cs) = (T (accepted h c) → T (not (excluded (kindOf c)))) × NoneExcluded (step h (lower c)) cs
+NoneExcluded h (join c ∷ cs) = NoneExcluded (step h (join c)) cs
 
 -- ---- values: "A line's value is BTOR2's for given states and inputs, no init or Next used"
 
@@ -72,6 +74,8 @@ isTrue v h c = accepted h c && (needsItsFlag c && eqb (v (c .flag .0) .num) 1)
 unfoldable pub trueCalls : (ℕ → Value) → Held → List Call → List Request
 trueCalls v h [] = []
 trueCalls v h (lower c ∷ cs) = cond (isTrue v h c) (c ∷ trueCalls v (step h (lower c)) cs) (trueCalls v (step h (lower c)) cs)
+-- "as calls without a flag that write no register or memory flow"
+trueCalls v h (join c ∷ cs) = trueCalls v (step h (join c)) cs
 
 -- ---- the manual's values: "Of the register and memory flows, a store writes the memory flow, a branch or Ecall none, and any other of the 50
 -- rd's alone, or none where rd is x0"

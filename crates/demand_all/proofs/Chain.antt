@@ -19,29 +19,38 @@ use Rattle.lowering.proofs.Refused.{refused-kept}
 use Rattle.state_words.proofs.Words.{by-six, size-in, state-kept, put-length}
 use Rattle.lowering.proofs.Words.{read-back}
 use Rattle.roles_kept.proofs.Call.{refusal-is, roled-after}
-use Rattle.demand.specs.Calls.{Held, Request, Call, lower, inFront, lentFor, stateFor, answerTo, accepted, step, run}
-use Rattle.demand_all.specs.Chain.{Kept, Link, withCounts, answerBy, after, chain, requestFor, chainRequests, heldIn, PassesOn, ChainIsRun}
+use Rattle.lowering_refusals.specs.declared.Counts.{Counts}
+use Rattle.join.specs.declared.Held as J
+use Rattle.join.specs.Refusal.{lineCount, programOf, roomOut, refusalOf, lent as joinLent, Lent as JoinLent, Given as JoinGiven}
+use Rattle.program.specs.Prog.{exec}
+use Rattle.control_flow.specs.Listed.{appendListed}
+use Rattle.join.specs.Join.{settled, refused, storeOf, joining, Answer as JoinAnswer}
+use Rattle.join.specs.Words.{joiningWords, joinBy as wordsBy}
+use Rattle.join.proofs.Laws.{refused-leaves, roles-stay}
+use Rattle.demand.proofs.JoinStep.{refusal-is as join-refusal-is}
+use Rattle.demand.specs.Calls.{Held, Request, Join, Call, lower, join, inFront, lentFor, stateFor, answerTo, accepted, lentJoin, heldJoin, joinAnswer, joinAccepted, step, run}
+use Rattle.demand_all.specs.Chain.{Kept, LowerLink, JoinLink, Link, lowers, joins, withCounts, answerBy, joinBy, after, chain, requestFor, joinFor, callFor, chainCalls, heldIn, PassesOn, ChainIsRun}
 use Rattle.demand_all.proofs.Many.{front-self, refused-lent}
 
 -- ---- the counts that the host sets
 
-abbrev counted : State → Link → State
+abbrev counted : State → LowerLink → State
 counted s c = record {
   tally = s .tally;
   counts = record { names = s .counts .names; edges = c .edgeCount; dispatches = c .dispatchCount; bads = c .badCount };
   roles = s .roles;
 }
 
-read-counts : (ws : List ℕ) (c : Link) → stateWords ≤ length ws → stateIn (withCounts ws c) ≡ counted (stateIn ws) c
+read-counts : (ws : List ℕ) (c : LowerLink) → stateWords ≤ length ws → stateIn (withCounts ws c) ≡ counted (stateIn ws) c
 unfolding stateIn rolesIn
 read-counts ws c h = by-six (λ ws. stateIn (withCounts ws c) ≡ counted (stateIn ws) c) ws h (λ a b d e f g rest l. refl)
 
-counts-length : (ws : List ℕ) (c : Link) → length (withCounts ws c) ≡ length ws
+counts-length : (ws : List ℕ) (c : LowerLink) → length (withCounts ws c) ≡ length ws
 counts-length ws c = length-set (set (set ws 3 (c .edgeCount)) 4 (c .dispatchCount)) 5 (c .badCount) ∙ length-set (set ws 3 (c .edgeCount)) 4 (c .dispatchCount) ∙ length-set ws 3 (c .edgeCount)
 
 -- ---- one call
 
-module _ (h : Held) (k : Kept) (c : Link) (p : PassesOn h k) (enough : stateWords ≤ length (k .state)) where
+module _ (h : Held) (k : Kept) (c : LowerLink) (p : PassesOn h k) (enough : stateWords ≤ length (k .state)) where
   abbrev words : List ℕ
   words = withCounts (k .state) c
 
@@ -82,7 +91,7 @@ module _ (h : Held) (k : Kept) (c : Link) (p : PassesOn h k) (enough : stateWord
     unfolding step accepted
     step-is = rw (answer-is, q)
 
-  taken : a .lowered .refusal ≡ 0 → (stateWords ≤ length (after k c .state)) × PassesOn (step h (lower (requestFor k c))) (after k c)
+  taken : a .lowered .refusal ≡ 0 → (stateWords ≤ length (after k (lowers c) .state)) × PassesOn (step h (lower (requestFor k c))) (after k (lowers c))
   unfolding after
   taken e =
       let size : length (a .lowered .state .roles) ≡ roleCount = roled-after l st (c .call .instruction) (c .call .address) (c .call .flag) sized (sym (refusal-is l st (c .call .instruction) (c .call .address) (c .call .flag)) ∙ e) .size in
@@ -92,7 +101,7 @@ module _ (h : Held) (k : Kept) (c : Link) (p : PassesOn h k) (enough : stateWord
         record { list = refl; names = refl; tally = ap (λ (s : State). s .tally) (sym read); used = ap (λ (s : State). s .counts .names) (sym read); roles = ap (λ (s : State). s .roles) (sym read) },
       )
 
-  turned-away : (a .lowered .refusal ≡ 0 → ⊥) → (stateWords ≤ length (after k c .state)) × PassesOn (step h (lower (requestFor k c))) (after k c)
+  turned-away : (a .lowered .refusal ≡ 0 → ⊥) → (stateWords ≤ length (after k (lowers c) .state)) × PassesOn (step h (lower (requestFor k c))) (after k (lowers c))
   unfolding after
   turned-away n =
       let same : withState words (a .lowered .state) ≡ words = ap (withState words) (refused-kept _ l st (c .call .instruction) (c .call .address) (c .call .flag) n) ∙ state-kept words long in
@@ -108,19 +117,112 @@ module _ (h : Held) (k : Kept) (c : Link) (p : PassesOn h k) (enough : stateWord
         },
       )
 
-  pub one : (stateWords ≤ length (after k c .state)) × PassesOn (step h (lower (requestFor k c))) (after k c)
-  one = go (eqb (a .lowered .refusal) 0) refl
+  one-lowering : (stateWords ≤ length (after k (lowers c) .state)) × PassesOn (step h (lower (requestFor k c))) (after k (lowers c))
+  one-lowering = go (eqb (a .lowered .refusal) 0) refl
     where
-      go : (b : Bool) → eqb (a .lowered .refusal) 0 ≡ b → (stateWords ≤ length (after k c .state)) × PassesOn (step h (lower (requestFor k c))) (after k c)
+      go : (b : Bool) → eqb (a .lowered .refusal) 0 ≡ b → (stateWords ≤ length (after k (lowers c) .state)) × PassesOn (step h (lower (requestFor k c))) (after k (lowers c))
       go true q = taken (eqb-true (a .lowered .refusal) 0 q)
       go false q = turned-away (eqb-false (a .lowered .refusal) 0 q)
 
+-- ---- one join: it looks at the tally, the count of names and the roles, and at no other count
+
+abbrev with-others : State → Counts → State
+with-others s o = record { tally = s .tally; counts = record { names = s .counts .names; edges = o .edges; dispatches = o .dispatches; bads = o .bads }; roles = s .roles }
+
+abbrev holding : State → ℕ → J.Held
+holding s n = record { state = s; sequentials = n }
+
+record Agree (a b : JoinAnswer) : Type 0 where
+  refusal : a .refusal ≡ b .refusal
+  lent : a .lent ≡ b .lent
+  tally : a .held .state .tally ≡ b .held .state .tally
+  used : a .held .state .counts .names ≡ b .held .state .counts .names
+  roles : a .held .state .roles ≡ b .held .state .roles
+
+either : (t : Bool) (a b c d : JoinAnswer) → Agree a c → Agree b d → Agree (cond t a b) (cond t c d)
+either true a b c d x y = x
+either false a b c d x y = y
+
+-- accepted
+abbrev went : JoinLent → J.Held → JoinGiven → JoinAnswer
+went l h g = settled l h g (exec appendListed (storeOf l h) (programOf (h .state) g))
+
+agree : (l : JoinLent) (s : State) (o : Counts) (n : ℕ) (g : JoinGiven) → Agree (joining l (holding (with-others s o) n) g) (joining l (holding s n) g)
+unfolding joining settled refusalOf roomOut lineCount programOf
+agree l s o n g =
+    let before = holding (with-others s o) n in
+    let after = holding s n in
+    either (eqb (refusalOf l after g) 0) (went l before g) (refused (refusalOf l before g) l before g) (went l after g) (refused (refusalOf l after g) l after g)
+    (record { refusal = refl; lent = refl; tally = refl; used = refl; roles = refl }) (record { refusal = refl; lent = refl; tally = refl; used = refl; roles = refl })
+
+module _ (h : Held) (k : Kept) (c : JoinLink) (p : PassesOn h k) (enough : stateWords ≤ length (k .state)) where
+  abbrev joined-lent : JoinLent
+  joined-lent = joinLent (k .list) (k .names) (c .sequentials)
+
+  abbrev joined : JoinAnswer
+  joined = joining joined-lent (holding (stateIn (k .state)) (c .used)) (c .given)
+
+  join-lent-is : lentJoin h (joinFor k c) ≡ joined-lent
+  unfolding lentJoin inFront
+  join-lent-is = rw (p .list, p .names, front-self (h .state .tally .lines * stride) (k .list), front-self (h .state .counts .names) (k .names))
+
+  same : Agree (joinAnswer h (joinFor k c)) joined
+  unfolding joinAnswer heldJoin
+  same = rw (join-lent-is, p .tally, p .used, p .roles) (agree joined-lent (stateIn (k .state)) (h .state .counts) (c .used) (c .given))
+
+  join-given-is : joinBy k c ≡ wordsBy (k .state) joined
+  unfolding joinBy joiningWords
+  join-given-is = rw (le-ltb (length (k .state)) stateWords enough)
+
+  join-step : (b : Bool) → eqb (joined .refusal) 0 ≡ b
+      → step h (join (joinFor k c)) ≡ cond b (record { list = joinAnswer h (joinFor k c) .lent .list; names = joinAnswer h (joinFor k c) .lent .names; state = joinAnswer h (joinFor k c) .held .state }) h
+  unfolding step joinAccepted
+  join-step b q = rw (same .refusal, q)
+
+  size : length (joined .held .state .roles) ≡ roleCount
+  unfolding stateIn
+  size = ap length (roles-stay joined-lent (holding (stateIn (k .state)) (c .used)) (c .given)) ∙ size-in (k .state)
+
+  turned : eqb (joined .refusal) 0 ≡ false → joined ≡ refused (refusalOf joined-lent (holding (stateIn (k .state)) (c .used)) (c .given)) joined-lent (holding (stateIn (k .state)) (c .used)) (c .given)
+  turned q =
+      refused-leaves joined-lent (holding (stateIn (k .state)) (c .used)) (c .given)
+      (λ z. eqb-false (joined .refusal) 0 q (join-refusal-is joined-lent (holding (stateIn (k .state)) (c .used)) (c .given) ∙ z))
+
+  pub one-join : (stateWords ≤ length (after k (joins c) .state)) × PassesOn (step h (join (joinFor k c))) (after k (joins c))
+  unfolding after
+  one-join = rw join-given-is (go (eqb (joined .refusal) 0) refl)
+    where
+      read : stateIn (withState (k .state) (joined .held .state)) ≡ joined .held .state
+      read = read-back (k .state) (joined .held .state) size
+
+      go : (b : Bool) → eqb (joined .refusal) 0 ≡ b
+          → (stateWords ≤ length (withState (k .state) (joined .held .state)))
+          × PassesOn (step h (join (joinFor k c))) (record { list = joined .lent .list; names = joined .lent .names; state = withState (k .state) (joined .held .state) })
+      go true q = (
+        put-length (k .state) (joined .held .state) size,
+        rw (join-step true q) (record {
+          list = ap (λ (l : JoinLent). l .list) (same .lent);
+          names = ap (λ (l : JoinLent). l .names) (same .lent);
+          tally = same .tally ∙ ap (λ (s : State). s .tally) (sym read);
+          used = same .used ∙ ap (λ (s : State). s .counts .names) (sym read);
+          roles = same .roles ∙ ap (λ (s : State). s .roles) (sym read);
+        }),
+      )
+      go false q = (
+        put-length (k .state) (joined .held .state) size,
+        rw (join-step false q) (subst (λ (a : JoinAnswer). PassesOn h (record { list = a .lent .list; names = a .lent .names; state = withState (k .state) (a .held .state) })) (sym (turned q)) (rw (state-kept (k .state) enough) p)),
+      )
+
 -- ---- all
 
-all : (cs : List Link) (h : Held) (k : Kept) → PassesOn h k → stateWords ≤ length (k .state) → PassesOn (run h (chainRequests k cs)) (chain k cs)
-unfolding run chain chainRequests
+pub one : (h : Held) (k : Kept) (c : Link) → PassesOn h k → stateWords ≤ length (k .state) → (stateWords ≤ length (after k c .state)) × PassesOn (step h (callFor k c)) (after k c)
+one h k (lowers c) p e = one-lowering h k c p e
+one h k (joins c) p e = one-join h k c p e
+
+all : (cs : List Link) (h : Held) (k : Kept) → PassesOn h k → stateWords ≤ length (k .state) → PassesOn (run h (chainCalls k cs)) (chain k cs)
+unfolding run chain chainCalls
 all [] h k p e = p
-all (c ∷ cs) h k p e = all cs (step h (lower (requestFor k c))) (after k c) (one h k c p e .1) (one h k c p e .0)
+all (c ∷ cs) h k p e = all cs (step h (callFor k c)) (after k c) (one h k c p e .1) (one h k c p e .0)
 
 pub chain-is-run : ChainIsRun
 chain-is-run k cs e = all cs (heldIn k) k (record { list = refl; names = refl; tally = refl; used = refl; roles = refl }) e

@@ -1,6 +1,6 @@
--- A chain of calls over the state's words, as a host makes them by `lanthanumbat_lower`, is a list of calls that demand 3 speaks of. The host
--- keeps the list, our name area and the state's words; between two calls it may lend other lists of edges, dispatches and bads and set their
--- counts: "edge, dispatch and bad lists may change in between".
+-- A chain of calls over the state's words, as a host makes them by `lanthanumbat_lower` and `lanthanumbat_join`, is a list of calls that demand 3
+-- speaks of. The host keeps the list, our name area and the state's words; between two calls it may lend other lists of edges, dispatches, bads
+-- and sequentials and set their counts: "edge, dispatch and bad lists may change in between".
 use Prim.Native.Nat.{ℕ, _≤_}
 use mathlib.Core.Path.{_≡_}
 use mathlib.Core.List.{List, [], _∷_}
@@ -9,15 +9,17 @@ use Rattle.lowering.specs.Lowering.{Lent, lent}
 use Rattle.state_words.specs.Words.{stateWords, stateIn}
 use Rattle.lowering.specs.Words.{Given, loweringWords}
 use Rattle.lowering.specs.All as All
-use Rattle.demand.specs.Calls.{Held, Request, Call, lower, run}
+use Rattle.join.specs.Refusal.{lent as joinLent, Given as JoinGiven}
+use Rattle.join.specs.Words.{GivenJoin, joiningWords}
+use Rattle.demand.specs.Calls.{Held, Request, Join, Call, lower, join, run}
 
 pub record Kept : Type 0 where
   pub list : List ℕ
   pub names : List ℕ
   pub state : List ℕ
 
--- one call, and what is lent with it besides the list and our name area
-pub record Link : Type 0 where
+-- one lowering, and what is lent with it besides the list and our name area
+pub record LowerLink : Type 0 where
   pub call : All.Call
   pub edges : List ℕ
   pub dispatches : List ℕ
@@ -26,25 +28,39 @@ pub record Link : Type 0 where
   pub dispatchCount : ℕ
   pub badCount : ℕ
 
+-- one join, what it is given, and the sequentials that are lent with it
+pub record JoinLink : Type 0 where
+  pub given : JoinGiven
+  pub sequentials : List ℕ
+  pub used : ℕ
+
+pub data Link : Type 0 where
+  lowers : LowerLink → Link
+  joins : JoinLink → Link
+
 -- the state's words once the host has set these counts
-abbrev pub withCounts : List ℕ → Link → List ℕ
+abbrev pub withCounts : List ℕ → LowerLink → List ℕ
 withCounts ws c = set (set (set ws 3 (c .edgeCount)) 4 (c .dispatchCount)) 5 (c .badCount)
 
-unfoldable pub answerBy : Kept → Link → Given
+unfoldable pub answerBy : Kept → LowerLink → Given
 answerBy k c =
     loweringWords (lent (k .list) (k .names) (c .edges) (c .dispatches) (c .bads)) (withCounts (k .state) c) (c .call .instruction) (c .call .address)
     (c .call .flag)
 
+unfoldable pub joinBy : Kept → JoinLink → GivenJoin
+joinBy k c = joiningWords (joinLent (k .list) (k .names) (c .sequentials)) (k .state) (c .used) (c .given)
+
 -- what the host keeps after a call, and after all of a chain, refused ones among them
 unfoldable pub after : Kept → Link → Kept
-after k c = let g = answerBy k c in record { list = g .lent .list; names = g .lent .names; state = g .state }
+after k (lowers c) = let g = answerBy k c in record { list = g .lent .list; names = g .lent .names; state = g .state }
+after k (joins c) = let g = joinBy k c in record { list = g .lent .list; names = g .lent .names; state = g .state }
 
 unfoldable pub chain : Kept → List Link → Kept
 chain k [] = k
 chain k (c ∷ cs) = chain (after k c) cs
 
 -- the same calls as demand 3's: each is lent what the one before it left
-abbrev pub requestFor : Kept → Link → Request
+abbrev pub requestFor : Kept → LowerLink → Request
 requestFor k c = record {
   instruction = c .call .instruction;
   address = c .call .address;
@@ -59,9 +75,16 @@ requestFor k c = record {
   badCount = c .badCount;
 }
 
-unfoldable pub chainRequests : Kept → List Link → List Call
-chainRequests k [] = []
-chainRequests k (c ∷ cs) = lower (requestFor k c) ∷ chainRequests (after k c) cs
+abbrev pub joinFor : Kept → JoinLink → Join
+joinFor k c = record { given = c .given; list = k .list; names = k .names; sequentials = c .sequentials; sequentialCount = c .used }
+
+abbrev pub callFor : Kept → Link → Call
+callFor k (lowers c) = lower (requestFor k c)
+callFor k (joins c) = join (joinFor k c)
+
+unfoldable pub chainCalls : Kept → List Link → List Call
+chainCalls k [] = []
+chainCalls k (c ∷ cs) = callFor k c ∷ chainCalls (after k c) cs
 
 abbrev pub heldIn : Kept → Held
 heldIn k = record { list = k .list; names = k .names; state = stateIn (k .state) }
@@ -75,4 +98,4 @@ pub record PassesOn (h : Held) (k : Kept) : Type 0 where
   pub roles : h .state .roles ≡ stateIn (k .state) .roles
 
 abbrev pub ChainIsRun : Type 0
-ChainIsRun = (k : Kept) (cs : List Link) → stateWords ≤ length (k .state) → PassesOn (run (heldIn k) (chainRequests k cs)) (chain k cs)
+ChainIsRun = (k : Kept) (cs : List Link) → stateWords ≤ length (k .state) → PassesOn (run (heldIn k) (chainCalls k cs)) (chain k cs)

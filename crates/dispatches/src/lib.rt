@@ -1,4 +1,4 @@
-// Dispatches and bads, as records of numbers in slices that the host lends. Each put is total: where the slice holds no further record it
+// Dispatches, and places of lines, as records of numbers in slices that the host lends. Each put is total: where the slice holds no further record it
 // changes nothing.
 use btor2::NodeRef;
 ghost use mathlib.Core.Path.{_≡_};
@@ -20,12 +20,12 @@ pub fn go_to_anywhere(dispatches: &mut [u64], count: usize, register: u64, from:
     dispatches[b + 1] = from;
 }
 
-// The place of a bad line, after `count` others.
-pub fn put_bad(bads: &mut [u64], count: usize, place: NodeRef)
-    ensures { λ _. ⌜ now (bads .exit) ≡ putRecord 1 (now (bads .entry)) count (place .0 ∷ []) ⌝ }
+// The place of a line, after `count` others: of a bad line with the bads, of a Next with the sequentials.
+pub fn put_place(places: &mut [u64], count: usize, place: NodeRef)
+    ensures { λ _. ⌜ now (places .exit) ≡ putRecord 1 (now (places .entry)) count (place .0 ∷ []) ⌝ }
 {
-    if bads.len() <= count {
+    if places.len() <= count {
         return;
     }
-    bads[count] = place.0 as u64;
+    places[count] = place.0 as u64;
 }

@@ -1,5 +1,6 @@
 // The library for a host in C or Rust. A slice is a pointer and a length there; the state is 85 words that the host keeps.
 use btor2::NodeRef;
+use join::Asked;
 use print::Printed;
 use riscv::Instruction;
 use state_words::STATE_WORDS;
@@ -9,6 +10,8 @@ ghost use Rattle.lowering.specs.Lowering.{lent};
 ghost use Rattle.lowering_refusals.specs.Refusal.{roomOf};
 ghost use Rattle.lowering.specs.Words.{given, loweringWords};
 ghost use Rattle.lowering.specs.All.{givenAll, loweringAllWords};
+ghost use Rattle.join.specs.Refusal.{lent as joinLent, given as joinGiven};
+ghost use Rattle.join.specs.Words.{givenJoin, joiningWords};
 ghost use Rattle.host.specs.Host.{givenText, hostPrinting, hostCheck};
 
 // A count above its storage.
@@ -72,6 +75,54 @@ pub extern "C" fn lanthanumbat_lower_all(
     let stopped = lowering_calls::lower_all(list, names, edges, dispatches, bads, state, calls);
     *refusal = stopped.refusal;
     stopped.done
+}
+
+// Joins one address's edges, then its dispatches, into a flow: `flow` is the starting flow's place, and is set to the new one; `used` is how many
+// sequentials are in use, and is set to how many there are then. Gives the number of the refusal, or 0. A refused call changes nothing.
+#[no_mangle]
+pub extern "C" fn lanthanumbat_join(
+    list: &mut [u64],
+    names: &mut [u8],
+    sequentials: &mut [u64],
+    state: &mut [u64],
+    edges: &[u64],
+    dispatches: &[u64],
+    flags: &[u64],
+    dynamics: &[u64; 31],
+    count: usize,
+    dispatched: usize,
+    flagged: usize,
+    mode: usize,
+    none: usize,
+    used: &mut usize,
+    flow: &mut usize,
+) -> u64
+    ensures { λ r. ⌜ givenJoin r (now (flow .exit)) (now (used .exit)) (joinLent (now (list .exit)) (now (names .exit)) (now (sequentials .exit))) (now (state .exit)) ≡ joiningWords (joinLent (now (list .entry)) (now (names .entry)) (now (sequentials .entry))) (now (state .entry)) (now (used .entry)) (joinGiven (now (edges .entry)) (now (dispatches .entry)) (now (flags .entry)) (now (dynamics .entry)) (record { edges = count; dispatches = dispatched; flags = flagged; mode = record { 0 = mode }; none = record { 0 = none }; flow = record { 0 = now (flow .entry) } })) ⌝ }
+{
+    let a = Asked {
+        edges: count,
+        dispatches: dispatched,
+        flags: flagged,
+        mode: NodeRef(mode),
+        none: NodeRef(none),
+        flow: NodeRef(*flow),
+    };
+    let joined = join_calls::join_words(
+        list,
+        names,
+        sequentials,
+        state,
+        edges,
+        dispatches,
+        flags,
+        dynamics,
+        a,
+        *used,
+    );
+    let place = joined.flow;
+    *flow = place.0;
+    *used = joined.sequentials;
+    joined.refusal
 }
 
 // Puts the `count` lines from place `from` on, of a list of this many lines, at the output's start. Gives the number of the refusal, or 0, and

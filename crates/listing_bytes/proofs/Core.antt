@@ -29,9 +29,11 @@ use Rattle.lowering_refusals.specs.declared.Counts.{Counts}
 use Rattle.lowering_refusals.specs.declared.Room.{Room}
 use Rattle.lowering_refusals.specs.declared.State.{State}
 use Rattle.lowering_refusals.specs.Refusal.{mostLines, needsOf, needs, roomOut, refusalOf}
-use Rattle.lowering_lines.specs.Lines.{ourArea, nameFor, programFrom}
+use Rattle.btor2_name.specs.NameBytes.{ourArea}
+use Rattle.lowering_lines.specs.Lines.{nameFor, programFrom}
 use Rattle.lowering.specs.Lowering.{Lent, Answer, programOf, countsAfter, settled, roomIn, refused, loweringGiven, lowering}
-use Rattle.lowering_laws.specs.Lines.{linesOf, placeAfter, numbered}
+use Rattle.program.specs.Lines.{linesOf, placeAfter}
+use Rattle.lowering_laws.specs.Lines.{numbered}
 use Rattle.lowering_laws.specs.Accepted.{growth}
 use Rattle.lowering_laws.proofs.EachKind.{reading, reads}
 use Rattle.lowering_laws.proofs.OneCall.{room, when-accepted, when-refused}

@@ -11,7 +11,7 @@ use lib.ListN.{length, getD, take, drop, length-append, length-take}
 use lib.Seq.{drop-at, take-append-seam}
 use Rattle.btor2.specs.declared.Name.{Name}
 use Rattle.btor2.specs.Sort.{sortNumber, width}
-use Rattle.btor2.specs.Op.{Bin, add, sub, mul, udiv, sdiv, urem, sll, srl, ult, Op, const, read, write, bin, uext, ite, eq, and, or, not, state, stateInit, next, input, bad, unknown, mapOp, binSort}
+use Rattle.btor2.specs.Op.{Bin, add, sub, mul, udiv, sdiv, urem, sll, srl, ult, Op, const, read, write, bin, uext, ite, eq, and, or, not, state, stateInit, next, input, bad, unknown, mapOp, binSort, identifiers}
 use Rattle.btor2_list.specs.Record.{stride}
 use Rattle.btor2_list.specs.Node.{Node}
 use Rattle.btor2_list.specs.View.{view}
@@ -113,7 +113,7 @@ rows-most host ours ns (suc k) nid [] e = omega arith
 rows-most host ours ns (suc k) nid (o ∷ ops) e =
     let b = both (oneRow o) (oneRowEach ops) e in
     simp length-append
-    (omega (arith, line-most (printedName host ours) (nidAt ns) nid (name-most host ours) o (b .0), rows-most host ours ns k (nid + 1) ops (b .1)))
+    (omega (arith, line-most (printedName host ours) (nidAt ns) nid (name-most host ours) o (b .0), rows-most host ours ns k (nid + identifiers o) ops (b .1)))
 
 -- ---- remarks
 

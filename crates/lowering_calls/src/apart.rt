@@ -169,7 +169,7 @@ fn put_indirect(
         if s {
             let place = bad_place(d, lines);
             text::put_bad_name(names, c.names, address);
-            dispatches::put_bad(bads, c.bads, place);
+            dispatches::put_place(bads, c.bads, place);
             return;
         }
         dispatches::go_to_anywhere(dispatches, c.dispatches, rs1, address);

@@ -11,7 +11,7 @@ use Rattle.edges.specs.Records.{putRecord}
 use Rattle.lowering_entry.specs.declared.InEdge.{InEdge}
 use Rattle.lowering_entry.specs.InEdges.{edgeWords}
 
-length-words : (es : List InEdge) → length (edgeWords es) ≡ length es * 4
+pub length-words : (es : List InEdge) → length (edgeWords es) ≡ length es * 4
 unfolding edgeWords
 length-words [] = refl
 length-words (e ∷ es) = omega (arith, length-words es)

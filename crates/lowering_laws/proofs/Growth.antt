@@ -10,14 +10,16 @@ use Rattle.btor2.specs.declared.Name.{Name}
 use Rattle.btor2.specs.Op.{Op}
 use Rattle.btor2_list.specs.Node.{noName}
 use Rattle.btor2_list.proofs.Fitting.{areaFits}
+use Rattle.btor2_name.specs.NameBytes.{ourArea}
 use Rattle.instruction_class.specs.declared.Class.{Class}
 use Rattle.instruction_class.specs.Class.{lineCount, hasBad}
 use Rattle.riscv.specs.Kind.{Kind, kindAt}
 use Rattle.riscv.proofs.EachKind.{by-kind, eight, of-eight}
+use Rattle.lowering_laws.specs.Lines.{taking}
 use Rattle.lowering_laws.proofs.EachKind.{reading}
 use Rattle.models.specs.Places.{Operands, Flows}
 use Rattle.text.specs.BadName.{badName}
-use Rattle.lowering_lines.specs.Lines.{ourArea, nameFor}
+use Rattle.lowering_lines.specs.Lines.{nameFor}
 
 -- the area of every line's name has one byte
 abbrev pub fitting : {A : Type 0} → List (Op A) → Bool
@@ -36,6 +38,14 @@ module _ {A : Type 0} (at : ℕ → A) (e : Operands A) (f : Flows A) (r m : A) 
   unfolding counted reading
   all-counted = tt
 
+  -- no line of an instruction takes two
+  numbered : Kind → Bool → Bool → Bool → Bool
+  numbered k z d s = eqb (taking (reading at e f r m imm name k z d s .lines)) (lineCount k z d s)
+
+  all-numbered : T (allBelow 50 (λ (n : ℕ). eight (numbered (kindAt n))))
+  unfolding numbered reading taking
+  all-numbered = tt
+
   fitted : Kind → Bool → Bool → Bool → Bool
   fitted k z d s = fitting (reading at e f r m imm name k z d s .lines)
 
@@ -46,6 +56,10 @@ module _ {A : Type 0} (at : ℕ → A) (e : Operands A) (f : Flows A) (r m : A) 
   pub grows : (k : Kind) (z d s : Bool) → length (reading at e f r m imm name k z d s .lines) ≡ lineCount k z d s
   unfolding counted
   grows k z d s = eqb→eq _ _ (of-eight (counted k) (by-kind (λ k. eight (counted k)) all-counted k) z d s)
+
+  pub takes : (k : Kind) (z d s : Bool) → taking (reading at e f r m imm name k z d s .lines) ≡ lineCount k z d s
+  unfolding numbered
+  takes k z d s = eqb→eq _ _ (of-eight (numbered k) (by-kind (λ k. eight (numbered k)) all-numbered k) z d s)
 
   pub fits : (k : Kind) (z d s : Bool) → fitting (reading at e f r m imm name k z d s .lines) ≡ true
   unfolding fitted

@@ -2,42 +2,85 @@
 -- program. Assumes nothing.
 use Prim.Native.Nat.{ℕ, suc, _+_, _*_, _/_, _^_, _≤_, _<_}
 use mathlib.Core.Path.{_≡_, refl, sym, _∙_, ap, subst}
-use mathlib.Core.Bool.{Bool, true, false, _&&_, true≢false}
+use mathlib.Core.Bool.{Bool, true, false, cond, _&&_, true≢false}
 use mathlib.Core.List.{List, [], _∷_, _++_, append-assoc, append-nil}
 use native.Mathlib.Omega.{arith}
 use native.Mathlib.Nat.{mod-eq-of-lt}
 use borrow.Author.Tests.{lt-ltb}
 use lib.ListN.{length, getD}
-use Rattle.btor2.specs.Op.{Op}
+use Rattle.btor2.specs.Op as O
+use Rattle.btor2.specs.Op.{Op, Bin, hasInit, identifiers}
 use Rattle.btor2_list.specs.Record.{stride, holds, putAt}
-use Rattle.btor2_list.specs.Node.{Node, node, lineOf}
+use Rattle.btor2_list.specs.Node.{Node, node, binKind, lineOf}
 use Rattle.btor2_list.specs.View.{view}
 use Rattle.btor2_list.proofs.Stored.{put-length, put-elsewhere-below, put-elsewhere-above}
 use Rattle.btor2_list.proofs.View.{node-back, view-put}
 use Rattle.btor2_list.proofs.Fitting.{areaFits, line-fits}
 use Rattle.program.specs.Prog.{Prog, done, line, Run, ran, exec}
 use Rattle.builder.specs.declared.Tally.{Tally}
-use Rattle.builder.specs.Append.{Store, at, appendLine, append}
-use Rattle.lowering_laws.specs.Lines.{linesOf, resultOf, placeAfter, numbered}
+use Rattle.builder.specs.Append.{Store, at, takenBy, appendLine, append}
+use Rattle.program.specs.Lines.{linesOf, resultOf, placeAfter}
+use Rattle.lowering_laws.specs.Lines.{taking, numbered}
 use Rattle.lowering_laws.proofs.Growth.{fitting}
 
--- the lent words hold m more lines, and their identifiers fit the record
-pub record Room (ws : List ℕ) (t : Tally) (m : ℕ) : Type 0 where
+-- the lent words hold m more lines, and the d identifiers that these take fit the record
+pub record Room (ws : List ℕ) (t : Tally) (m d : ℕ) : Type 0 where
   pub lines : t .lines + m ≤ length ws / stride
-  pub nids : t .nid + m < 2 ^ 32
+  pub nids : t .nid + d < 2 ^ 32
+
+-- ---- identifiers: the append counts by the record what the line takes
+
+taken-bin : (o : Bin) → takenBy (binKind o) 0 ≡ 1
+taken-bin O.add = refl
+taken-bin O.sub = refl
+taken-bin O.mul = refl
+taken-bin O.udiv = refl
+taken-bin O.sdiv = refl
+taken-bin O.urem = refl
+taken-bin O.sll = refl
+taken-bin O.srl = refl
+taken-bin O.ult = refl
+
+taken-line : (nid : ℕ) (o : Op ℕ) → takenBy (lineOf nid o .kind) (lineOf nid o .imm) ≡ identifiers o
+taken-line nid (O.const s n) = refl
+taken-line nid (O.read m a) = refl
+taken-line nid (O.write m a v) = refl
+taken-line nid (O.bin o a b) = taken-bin o
+taken-line nid (O.uext s a) = refl
+taken-line nid (O.ite s c a b) = refl
+taken-line nid (O.eq a b) = refl
+taken-line nid (O.and s a b) = refl
+taken-line nid (O.or s a b) = refl
+taken-line nid (O.not s a) = refl
+taken-line nid (O.state s m) = refl
+taken-line nid (O.stateInit s a m) = refl
+taken-line nid (O.next s a b) = refl
+taken-line nid (O.input s m) = refl
+taken-line nid (O.bad a m) = refl
+taken-line nid O.unknown = refl
+
+at-most-two : (b : Bool) → cond b 2 1 ≤ 2
+at-most-two true = omega arith
+at-most-two false = omega arith
+
+-- lines take at most two each
+pub taking-most : (os : List (Op ℕ)) → taking os ≤ length os + length os
+unfolding taking
+taking-most [] = omega arith
+taking-most (o ∷ os) = omega (arith, at-most-two (hasInit o), taking-most os)
 
 -- what a run of the program p from ws and t has done, m being how many lines p has from the k-th on after n others
 pub record Laid {X : Type 0} (n k m : ℕ) (ws : List ℕ) (t : Tally) (p : Prog ℕ X) (r : Run Store X) : Type 0 where
   pub value : r .value ≡ resultOf (placeAfter n) k p
   pub nodes : view (r .state .words) (r .state .tally .lines) ≡ view ws (t .lines) ++ numbered (t .nid) (linesOf (placeAfter n) k p)
   pub lines : r .state .tally .lines ≡ t .lines + m
-  pub nids : r .state .tally .nid ≡ t .nid + m
+  pub nids : r .state .tally .nid ≡ t .nid + taking (linesOf (placeAfter n) k p)
   pub size : length (r .state .words) ≡ length ws
   pub below : (j : ℕ) → j < t .lines * stride → getD (r .state .words) j 0 ≡ getD ws j 0
   pub above : (j : ℕ) → (t .lines + m) * stride ≤ j → getD (r .state .words) j 0 ≡ getD ws j 0
 
-abbrev next : Tally → Tally
-next t = record { lines = t .lines + 1; nid = t .nid + 1 }
+abbrev next : Tally → Op ℕ → Tally
+next t o = record { lines = t .lines + 1; nid = t .nid + identifiers o }
 
 abbrev put : List ℕ → Tally → Op ℕ → List ℕ
 put ws t o = putAt ws (t .lines) (lineOf (t .nid) o)
@@ -46,22 +89,22 @@ and-both : (a b : Bool) → (a && b) ≡ true → (a ≡ true) × (b ≡ true)
 and-both true b e = (refl, e)
 and-both false b e = absurd (true≢false (sym e))
 
-there : (ws : List ℕ) (t : Tally) (m : ℕ) → Room ws t (suc m) → holds ws (t .lines) ≡ true
-there ws t m r = lt-ltb (t .lines) (length ws / stride) (omega (arith, r .lines))
+there : (ws : List ℕ) (t : Tally) (m d : ℕ) → Room ws t (suc m) d → holds ws (t .lines) ≡ true
+there ws t m d r = lt-ltb (t .lines) (length ws / stride) (omega (arith, r .lines))
 
-append-room : (ws : List ℕ) (t : Tally) (o : Op ℕ) (m : ℕ) → Room ws t (suc m) → append (at ws t) o ≡ ran (at (put ws t o) (next t)) (t .lines)
+append-room : (ws : List ℕ) (t : Tally) (o : Op ℕ) (m d : ℕ) → Room ws t (suc m) (identifiers o + d) → append (at ws t) o ≡ ran (at (put ws t o) (next t o)) (t .lines)
 unfolding appendLine
-append-room ws t o m r = rw (there ws t m r, mod-eq-of-lt {n = t .nid + 1} {m = 2 ^ 64} (omega (arith, r .nids)))
+append-room ws t o m d r = rw (there ws t m _ r, taken-line (t .nid) o, mod-eq-of-lt {n = t .nid + identifiers o} {m = 2 ^ 64} (omega (arith, r .nids)))
 
-room-next : (ws : List ℕ) (t : Tally) (o : Op ℕ) (m : ℕ) → Room ws t (suc m) → Room (put ws t o) (next t) m
-room-next ws t o m r = record {
+room-next : (ws : List ℕ) (t : Tally) (o : Op ℕ) (m d : ℕ) → Room ws t (suc m) (identifiers o + d) → Room (put ws t o) (next t o) m d
+room-next ws t o m d r = record {
   lines = rw (put-length ws (t .lines) (lineOf (t .nid) o)) (omega (arith, r .lines));
   nids = omega (arith, r .nids);
 }
 
-pub laid : {X : Type 0} (p : Prog ℕ X) (n k : ℕ) (ws : List ℕ) (t : Tally) → t .lines ≡ n + k → Room ws t (length (linesOf (placeAfter n) k p)) → fitting (linesOf (placeAfter n) k p) ≡ true
+pub laid : {X : Type 0} (p : Prog ℕ X) (n k : ℕ) (ws : List ℕ) (t : Tally) → t .lines ≡ n + k → Room ws t (length (linesOf (placeAfter n) k p)) (taking (linesOf (placeAfter n) k p)) → fitting (linesOf (placeAfter n) k p) ≡ true
     → Laid n k (length (linesOf (placeAfter n) k p)) ws t p (exec append (at ws t) p)
-unfolding linesOf resultOf numbered
+unfolding linesOf resultOf numbered taking
 laid (done x) n k ws t e r fit = record {
   value = refl;
   nodes = sym (append-nil (view ws (t .lines)));
@@ -73,22 +116,25 @@ laid (done x) n k ws t e r fit = record {
 }
 laid {X} (line o f) n k ws t e r fit =
     subst (λ (g : Run Store ℕ). Laid n k (suc m) ws t (line o f) (exec append (g .state) (f (g .value))))
-    (sym (append-room ws t o m r ∙ ap (λ j. ran (at (put ws t o) (next t)) j) e))
-    (go (laid (f (n + k)) n (k + 1) (put ws t o) (next t) (omega arith) (room-next ws t o m r) (both .1)))
+    (sym (append-room ws t o m d r ∙ ap (λ j. ran (at (put ws t o) (next t o)) j) e))
+    (go (laid (f (n + k)) n (k + 1) (put ws t o) (next t o) (omega arith) (room-next ws t o m d r) (both .1)))
   where
     m : ℕ
     m = length (linesOf (placeAfter n) (k + 1) (f (n + k)))
+
+    d : ℕ
+    d = taking (linesOf (placeAfter n) (k + 1) (f (n + k)))
 
     both : (areaFits o ≡ true) × (fitting (linesOf (placeAfter n) (k + 1) (f (n + k))) ≡ true)
     both = and-both (areaFits o) _ fit
 
     placed : view (put ws t o) (t .lines + 1) ≡ view ws (t .lines) ++ (node (t .nid) o ∷ [])
-    placed = view-put ws (t .lines) (lineOf (t .nid) o) (there ws t m r) (line-fits (t .nid) (omega (arith, r .nids)) o (both .0)) ∙ ap (λ (x : Node). view ws (t .lines) ++ (x ∷ [])) (node-back (t .nid) o)
+    placed = view-put ws (t .lines) (lineOf (t .nid) o) (there ws t m _ r) (line-fits (t .nid) (omega (arith, r .nids)) o (both .0)) ∙ ap (λ (x : Node). view ws (t .lines) ++ (x ∷ [])) (node-back (t .nid) o)
 
-    go : {g : Run Store X} → Laid n (k + 1) m (put ws t o) (next t) (f (n + k)) g → Laid n k (suc m) ws t (line o f) g
+    go : {g : Run Store X} → Laid n (k + 1) m (put ws t o) (next t o) (f (n + k)) g → Laid n k (suc m) ws t (line o f) g
     go h = record {
       value = h .value;
-      nodes = h .nodes ∙ ap (λ l. l ++ numbered (t .nid + 1) (linesOf (placeAfter n) (k + 1) (f (n + k)))) placed ∙ append-assoc (view ws (t .lines)) _ _;
+      nodes = h .nodes ∙ ap (λ l. l ++ numbered (t .nid + identifiers o) (linesOf (placeAfter n) (k + 1) (f (n + k)))) placed ∙ append-assoc (view ws (t .lines)) _ _;
       lines = omega (arith, h .lines);
       nids = omega (arith, h .nids);
       size = h .size ∙ put-length ws (t .lines) (lineOf (t .nid) o);

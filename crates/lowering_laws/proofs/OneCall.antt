@@ -20,10 +20,11 @@ use Rattle.lowering_refusals.proofs.Within.{within}
 use Rattle.lowering_refusals.proofs.Accepted as A
 use Rattle.lowering_lines.specs.Lines.{nameFor, programFrom}
 use Rattle.lowering.specs.Lowering.{Lent, programOf, settled, roomIn, refused, loweringGiven, lowering}
-use Rattle.lowering_laws.specs.Lines.{linesOf, placeAfter}
+use Rattle.program.specs.Lines.{linesOf, placeAfter}
+use Rattle.lowering_laws.specs.Lines.{taking}
 use Rattle.lowering_laws.specs.Accepted.{growth, Accepted}
 use Rattle.lowering_laws.proofs.EachKind.{reads}
-use Rattle.lowering_laws.proofs.Growth.{fitting, grows, fits, name-fits}
+use Rattle.lowering_laws.proofs.Growth.{fitting, grows, takes, fits, name-fits}
 use Rattle.lowering_laws.proofs.Laid.{Room, Laid, laid}
 use Rattle.lowering_laws.proofs.Elsewhere.{edges-else, names-else, dispatches-else, bads-else}
 
@@ -42,6 +43,10 @@ module _ (l : Lent) (st : State) (i : Instruction) (pc : ℕ) (flag : NodeRef) w
   unfolding programOf programFrom
   grown at = sym (ap (λ r. length (r .lines)) (reads at _ _ _ _ _ _ (kindAt (i .kind)) _ _ _)) ∙ grows at _ _ _ _ _ _ small (kindAt (i .kind)) _ _ _
 
+  taken : (at : ℕ → ℕ) → taking (linesOf at 0 (programOf st i pc flag)) ≡ growth i
+  unfolding programOf programFrom
+  taken at = sym (ap (λ r. taking (r .lines)) (reads at _ _ _ _ _ _ (kindAt (i .kind)) _ _ _)) ∙ takes at _ _ _ _ _ _ small (kindAt (i .kind)) _ _ _
+
   fit : (at : ℕ → ℕ) → fitting (linesOf at 0 (programOf st i pc flag)) ≡ true
   unfolding programOf programFrom
   fit at = sym (ap (λ r. fitting (r .lines)) (reads at _ _ _ _ _ _ (kindAt (i .kind)) _ _ _)) ∙ fits at _ _ _ _ _ _ small (kindAt (i .kind)) _ _ _
@@ -51,7 +56,7 @@ module _ (l : Lent) (st : State) (i : Instruction) (pc : ℕ) (flag : NodeRef) w
     nid-in =
         within mostNid (roomIn l) (st .tally) (st .counts) (A.counts-in _ (l .list) (roomIn l) (st .tally) (st .counts) i pc (flag .0) e) .nids
 
-    pub room : Room (l .list) (st .tally) (growth i)
+    pub room : Room (l .list) (st .tally) (growth i) (growth i)
     unfolding roomOf needsOf
     room = record {
       lines = (A.roomy _ (l .list) (roomIn l) (st .tally) (st .counts) i pc (flag .0) e .lines);
@@ -64,7 +69,7 @@ module _ (l : Lent) (st : State) (i : Instruction) (pc : ℕ) (flag : NodeRef) w
     pub run : Laid (st .tally .lines) 0 (growth i) (l .list) (st .tally) (programOf st i pc flag) (exec append (at (l .list) (st .tally)) (programOf st i pc flag))
     run =
         subst (λ m. Laid (st .tally .lines) 0 m (l .list) (st .tally) (programOf st i pc flag) (exec append (at (l .list) (st .tally)) (programOf st i pc flag))) (grown after-them)
-        (laid (programOf st i pc flag) (st .tally .lines) 0 (l .list) (st .tally) (sym (add-zero _)) (rw (grown after-them) room) (fit after-them))
+        (laid (programOf st i pc flag) (st .tally .lines) 0 (l .list) (st .tally) (sym (add-zero _)) (rw (grown after-them, taken after-them) room) (fit after-them))
 
     pub when-accepted : Accepted l st i pc flag (lowering l st i pc flag)
     unfolding loweringGiven settled needsOf
@@ -72,7 +77,7 @@ module _ (l : Lent) (st : State) (i : Instruction) (pc : ℕ) (flag : NodeRef) w
       refusal = refl;
       nodes = run .nodes;
       lines = run .lines;
-      nids = run .nids;
+      nids = run .nids ∙ ap (λ d. st .tally .nid + d) (taken after-them);
       most = at-most (kindAt (i .kind)) (eqb (i .imm) 0) (eqb (i .rd) 0) (eqb (i .rs1) 0);
       list = record { size = run .size; below = run .below; above = run .above };
       names = names-else (st .counts .names) pc (class (kindAt (i .kind))) (eqb (i .rs1) 0) (l .names);

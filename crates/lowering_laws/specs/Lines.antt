@@ -1,24 +1,15 @@
--- A program read without a state: its lines, and what it gives in the end.
+-- Lines under the identifiers that they take.
 use Prim.Native.Nat.{ℕ, _+_}
 use mathlib.Core.List.{List, [], _∷_}
-use Rattle.btor2.specs.Op.{Op}
+use Rattle.btor2.specs.Op.{Op, identifiers}
 use Rattle.btor2_list.specs.Node.{Node, node}
-use Rattle.program.specs.Prog.{Prog, done, line}
 
--- the k-th line has the place `at k`; from the k-th line on
-unfoldable pub linesOf : {A X : Type 0} → (ℕ → A) → ℕ → Prog A X → List (Op A)
-linesOf at k (done x) = []
-linesOf at k (line o f) = o ∷ linesOf at (k + 1) (f (at k))
+-- how many identifiers lines take
+unfoldable pub taking : {A : Type 0} → List (Op A) → ℕ
+taking [] = 0
+taking (o ∷ os) = identifiers o + taking os
 
-unfoldable pub resultOf : {A X : Type 0} → (ℕ → A) → ℕ → Prog A X → X
-resultOf at k (done x) = x
-resultOf at k (line o f) = resultOf at (k + 1) (f (at k))
-
--- the places of lines after n others
-abbrev pub placeAfter : ℕ → ℕ → ℕ
-placeAfter n k = n + k
-
--- lines under identifiers that go up by one
+-- lines under identifiers that go up by what each takes
 unfoldable pub numbered : ℕ → List (Op ℕ) → List Node
 numbered nid [] = []
-numbered nid (o ∷ os) = node nid o ∷ numbered (nid + 1) os
+numbered nid (o ∷ os) = node nid o ∷ numbered (nid + identifiers o) os

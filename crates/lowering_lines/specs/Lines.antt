@@ -6,6 +6,7 @@ use lib.ListN.{length}
 use Rattle.btor2.specs.declared.Name.{Name}
 use Rattle.btor2_list.specs.Node.{noName}
 use Rattle.program.specs.Prog.{Prog}
+use Rattle.btor2_name.specs.NameBytes.{ourArea}
 use Rattle.instruction_class.specs.declared.Class.{Class}
 use Rattle.instruction_class.specs.Class.{class, hasBad}
 use Rattle.models.specs.Places as P
@@ -15,10 +16,6 @@ use Rattle.riscv.specs.declared.Instruction.{Instruction}
 use Rattle.riscv.specs.Kind.{kindAt}
 use Rattle.text.specs.BadName.{badName}
 use Rattle.roles.specs.declared.Reads.{Reads}
-
--- the mark of our area in a name (btor2_name/specs/NameBytes)
-abbrev pub ourArea : ℕ
-ourArea = 2
 
 -- Jalr's bad line has a name in our area, after what is in use there; no other line has one
 abbrev pub nameFor : Class → Bool → ℕ → ℕ → Name

@@ -180,7 +180,7 @@ fn room_out(room: Room, t: Tally, c: Counts, n: Room) -> bool
 }
 
 // Whether so many more than a count are more than there is room for, with no sum that could wrap.
-fn exceeds(room: usize, count: usize, more: usize) -> bool
+pub fn exceeds(room: usize, count: usize, more: usize) -> bool
     ensures { λ r. ⌜ r ≡ ltb room (count + more) ⌝ }
 {
     if room < count {

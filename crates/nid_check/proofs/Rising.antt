@@ -10,14 +10,14 @@ use lib.Dec.{leb, ltb}
 use lib.ListN.{length, drop, drop-of-length-le}
 use lib.Seq.{drop-cons}
 use Rattle.bitvec.proofs.Base.{by-le}
-use Rattle.btor2.specs.Op.{unknown}
+use Rattle.btor2.specs.Op.{unknown, hasInit}
 use Rattle.btor2_list.specs.Record.{stride, lineAt}
 use Rattle.btor2_list.specs.Node.{Node, node, nodeOf}
 use Rattle.btor2_list.specs.View.{view}
 use Rattle.btor2_list.proofs.View.{view-length, view-at}
 use Rattle.list_check.specs.Lines.{any}
 use Rattle.nid_check.specs.declared.Rise.the-variants.{To, Out}
-use Rattle.nid_check.specs.Identifiers.{hasInit, takenBy, taken, rising, reserved}
+use Rattle.nid_check.specs.Identifiers.{takenBy, taken, rising, reserved}
 use Rattle.nid_check.specs.Inside.{nidOut, riseOf}
 
 -- the identifiers after `last` break the rule

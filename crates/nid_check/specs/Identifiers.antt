@@ -4,29 +4,10 @@ use Prim.Native.Nat.{ℕ, _+_}
 use mathlib.Core.Bool.{Bool, true, false, cond, not, _&&_, _||_}
 use mathlib.Core.List.{List, [], _∷_, _++_}
 use lib.Dec.{leb, ltb}
-use Rattle.btor2.specs.Op as O
-use Rattle.btor2.specs.Op.{Op}
+use Rattle.btor2.specs.Op.{hasInit}
 use Rattle.btor2_list.specs.Node.{Node}
 use Rattle.btor2_list.specs.View.{view}
 use Rattle.list_check.specs.Lines.{any, pastWords}
-
-abbrev pub hasInit : Op ℕ → Bool
-hasInit (O.const s n) = false
-hasInit (O.read m a) = false
-hasInit (O.write m a v) = false
-hasInit (O.bin o a b) = false
-hasInit (O.uext s a) = false
-hasInit (O.ite s c a b) = false
-hasInit (O.eq a b) = false
-hasInit (O.and s a b) = false
-hasInit (O.or s a b) = false
-hasInit (O.not s a) = false
-hasInit (O.state s m) = false
-hasInit (O.stateInit s a m) = true
-hasInit (O.next s a b) = false
-hasInit (O.input s m) = false
-hasInit (O.bad a m) = false
-hasInit O.unknown = false
 
 -- the identifiers that lines take: "two for a State with init"; a line of an unknown kind takes one
 abbrev pub takenBy : Node → List ℕ

@@ -2,10 +2,11 @@
 use Prim.Native.Nat.{ℕ, _+_}
 use mathlib.Core.Bool.{Bool, cond, _||_}
 use lib.Dec.{leb}
+use Rattle.btor2.specs.Op.{hasInit}
 use Rattle.btor2_list.specs.Node.{Node}
 use Rattle.nid_check.specs.declared.Rise.{Rise}
 use Rattle.nid_check.specs.declared.Rise.the-variants.{To, Out}
-use Rattle.nid_check.specs.Identifiers.{hasInit, reserved}
+use Rattle.nid_check.specs.Identifiers.{reserved}
 
 -- an identifier that may not stand after `last` and before `next`
 abbrev pub nidOut : ℕ → ℕ → ℕ → Bool

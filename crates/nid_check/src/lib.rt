@@ -9,10 +9,11 @@ use line_operator::operator_of;
 ghost use mathlib.Core.Path.{_≡_};
 ghost use mathlib.Core.Bool.{cond};
 ghost use Prim.Native.Nat.{_+_, _*_, _<_};
+ghost use Rattle.btor2.specs.Op.{hasInit};
 ghost use Rattle.btor2_list.specs.Record.{stride, holds, lineAt};
 ghost use Rattle.btor2_list.specs.Node.{nodeOf, opOf};
 ghost use Rattle.nid_check.specs.declared.Rise.the-variants.{Out, To};
-ghost use Rattle.nid_check.specs.Identifiers.{hasInit, reserved, nidsOutWords};
+ghost use Rattle.nid_check.specs.Identifiers.{reserved, nidsOutWords};
 ghost use Rattle.nid_check.specs.Inside.{nidOut, riseOf};
 
 // The last identifier that a sort is printed as.

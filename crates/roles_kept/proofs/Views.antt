@@ -11,7 +11,7 @@ use Rattle.btor2.specs.declared.NodeType.the-variants.{Bit, Word, Memory, Input
 use Rattle.btor2.specs.declared.MaybeSort.{MaybeSort}
 use Rattle.btor2.specs.declared.MaybeSort.the-variants.{Sort, NoSort}
 use Rattle.btor2.specs.Sort.{sortNumber}
-use Rattle.btor2.specs.Op.{Op, unknown, carried}
+use Rattle.btor2.specs.Op.{Op, unknown, carried, identifiers}
 use Rattle.btor2.specs.SortRule.{hasSort, lineIs}
 use Rattle.btor2_list.specs.Record.{stride}
 use Rattle.btor2_list.specs.Node.{Node, node}
@@ -32,7 +32,7 @@ operators-length ws n = length-map (view ws n) (λ line. line .op) ∙ view-leng
 pub numbered-operators : (nid : ℕ) (os : List (Op ℕ)) → map (λ line. line .op) (numbered nid os) ≡ os
 unfolding numbered
 numbered-operators nid [] = refl
-numbered-operators nid (o ∷ os) = ap (λ l. o ∷ l) (numbered-operators (nid + 1) os)
+numbered-operators nid (o ∷ os) = ap (λ l. o ∷ l) (numbered-operators (nid + identifiers o) os)
 
 pub map-append : (l m : List Node) → map (λ line. line .op) (l ++ m) ≡ map (λ line. line .op) l ++ map (λ line. line .op) m
 map-append [] m = refl

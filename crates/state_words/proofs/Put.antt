@@ -17,7 +17,7 @@ use Rattle.lowering_refusals.specs.declared.Counts.{Counts}
 use Rattle.lowering_refusals.specs.declared.State.{State}
 use Rattle.state_words.specs.Words.{firstRole, stateWords, rolesIn, stateOf, stateOut, withState, place}
 use Rattle.state_words.proofs.Words.{role-at, role-set, roles-kept, by-six}
-use Rattle.state_words.specs.Put.{putFlows, putRegister, putOutcome}
+use Rattle.state_words.specs.Put.{countWords, putFlows, putRegister, putOutcome}
 
 -- ---- the node and the flow of a register, k being the role
 
@@ -88,17 +88,13 @@ put-outcome k rd (P.register x) = put-register k rd x
 put-outcome k rd (P.memory x) = put k R.memoryFlow x (omega arith)
 put-outcome k rd (P.branch x y) = k
 
--- the words before the roles
-abbrev pub counted : State → List ℕ
-counted s = s .tally .lines ∷ s .tally .nid ∷ s .counts .names ∷ s .counts .edges ∷ s .counts .dispatches ∷ s .counts .bads ∷ []
-
 -- words that hold other roles
 unfoldable pub withRoles : List ℕ → List NodeRef → List ℕ
 withRoles ws roles = take firstRole ws ++ map place roles ++ drop stateWords ws
 
-pub state-written : (ws : List ℕ) (s : State) → stateWords ≤ length ws → withRoles (sets ws 0 (counted s)) (s .roles) ≡ withState ws s
+pub state-written : (ws : List ℕ) (s : State) → stateWords ≤ length ws → withRoles (sets ws 0 (countWords (s .tally) (s .counts))) (s .roles) ≡ withState ws s
 unfolding withRoles stateOut withState
-state-written ws s h = by-six (λ ws. withRoles (sets ws 0 (counted s)) (s .roles) ≡ withState ws s) ws h (λ a b c d e f rest l. refl)
+state-written ws s h = by-six (λ ws. withRoles (sets ws 0 (countWords (s .tally) (s .counts))) (s .roles) ≡ withState ws s) ws h (λ a b c d e f rest l. refl)
 
 roles-back : (ws : List ℕ) → stateWords ≤ length ws → withRoles ws (rolesIn ws) ≡ ws
 unfolding rolesIn withRoles
@@ -109,16 +105,23 @@ unfolding withRoles
 kept-is {ws} {e} {roles} k = sym (roles-back e (rw (k .size) (k .enough))) ∙ rw (k .front, k .back, k .is)
 
 -- the six words are no roles
-after-six : (ws : List ℕ) (s : State) → stateWords ≤ length ws → rolesIn (sets ws 0 (counted s)) ≡ rolesIn ws
+after-six : (ws : List ℕ) (s : State) → stateWords ≤ length ws → rolesIn (sets ws 0 (countWords (s .tally) (s .counts))) ≡ rolesIn ws
 unfolding rolesIn
-after-six ws s h = by-six (λ ws. rolesIn (sets ws 0 (counted s)) ≡ rolesIn ws) ws h (λ a b c d e f rest l. refl)
+after-six ws s h = by-six (λ ws. rolesIn (sets ws 0 (countWords (s .tally) (s .counts))) ≡ rolesIn ws) ws h (λ a b c d e f rest l. refl)
 
 -- what an accepted call gives, put into the words
 pub parts-put : (ws : List ℕ) (t : Tally) (c : Counts) (rd : ℕ) (f : P.Flows ℕ) (o : P.Outcome ℕ) → stateWords ≤ length ws
-    → putOutcome (putFlows (sets ws 0 (counted (stateOf t c (withOutcome (withFlows (rolesIn ws) f) rd o)))) f) rd o
+    → putOutcome (putFlows (sets ws 0 (countWords t c)) f) rd o
     ≡ withState ws (stateOf t c (withOutcome (withFlows (rolesIn ws) f) rd o))
 parts-put ws t c rd f o h =
     let s : State = stateOf t c (withOutcome (withFlows (rolesIn ws) f) rd o) in
-    let six : List ℕ = sets ws 0 (counted s) in
-    let same : length six ≡ length ws = length-sets ws 0 (counted s) in
+    let six : List ℕ = sets ws 0 (countWords (s .tally) (s .counts)) in
+    let same : length six ≡ length ws = length-sets ws 0 (countWords (s .tally) (s .counts)) in
     kept-is (put-outcome (put-flows (record { front = refl; back = refl; size = refl; enough = rw same h; is = after-six ws s h }) f) rd o) ∙ state-written ws s h
+
+-- no role changes
+pub counts-put : (ws : List ℕ) (t : Tally) (c : Counts) → stateWords ≤ length ws → sets ws 0 (countWords t c) ≡ withState ws (stateOf t c (rolesIn ws))
+counts-put ws t c h =
+    let s : State = stateOf t c (rolesIn ws) in
+    sym (roles-back (sets ws 0 (countWords t c)) (rw (length-sets ws 0 (countWords t c)) h)) ∙ ap (λ roles. withRoles (sets ws 0 (countWords t c)) roles) (after-six ws s h)
+    ∙ state-written ws s h

@@ -1,12 +1,18 @@
 -- What is put into a state's words, store by store, for private functions.
 use Prim.Native.Nat.{ℕ, _+_}
 use mathlib.Core.Bool.{cond}
-use mathlib.Core.List.{List}
+use mathlib.Core.List.{List, [], _∷_}
 use lib.Dec.{eqb, ltb}
 use lib.ListN.{set}
+use Rattle.builder.specs.declared.Tally.{Tally}
+use Rattle.lowering_refusals.specs.declared.Counts.{Counts}
 use Rattle.models.specs.Places as P
 use Rattle.roles.specs.Roles.{registerFlows, memoryFlow, counterFlow, maximumFlow, divisionFlow, remainderFlow, accessFlow, additionFlow, multiplicationFlow, ecallFlow, lastRegister}
 use Rattle.state_words.specs.Words.{firstRole}
+
+-- the words before the roles
+abbrev pub countWords : Tally → Counts → List ℕ
+countWords t c = t .lines ∷ t .nid ∷ c .names ∷ c .edges ∷ c .dispatches ∷ c .bads ∷ []
 
 unfoldable pub putFlows : List ℕ → P.Flows ℕ → List ℕ
 putFlows ws f =

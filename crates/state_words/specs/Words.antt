@@ -53,6 +53,10 @@ withState ws s = stateOut s ++ drop stateWords ws
 abbrev pub rolesHeld : List ℕ → List NodeRef
 rolesHeld ws = cond (ltb (length ws) stateWords) [] (rolesIn ws)
 
+-- the tally and the counts of a call that changes no role
+abbrev pub countsStored : List ℕ → Tally → Counts → List ℕ
+countsStored ws t c = cond (ltb (length ws) stateWords) ws (withState ws (stateOf t c (rolesIn ws)))
+
 -- the tally and the counts of an accepted call, and the roles with the flows that it sets
 abbrev pub stored : List ℕ → Tally → Counts → P.Flows ℕ → ℕ → P.Outcome ℕ → List ℕ
 stored ws t c f rd o = cond (ltb (length ws) stateWords) ws (withState ws (stateOf t c (withOutcome (withFlows (rolesIn ws) f) rd o)))

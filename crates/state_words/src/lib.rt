@@ -12,11 +12,12 @@ ghost use mathlib.Core.Path.{_≡_};
 ghost use mathlib.Core.List.{[]};
 ghost use Prim.Native.Nat.{_+_, _≤_};
 ghost use lib.ListN.{length, getD};
+ghost use lib.Seq.{sets};
 ghost use Rattle.riscv.specs.declared.Instruction.{Instruction};
 ghost use Rattle.models.specs.Code.{flowsOf, outcomeOf};
 ghost use Rattle.roles.specs.Roles.{roleCount, nodeRole, flowRole, operandsFor, flowsIn, readsIn, withFlows, withOutcome};
-ghost use Rattle.state_words.specs.Words.{stateWords, rolesIn, stateOf, stateIn, stateOut, withState, rolesHeld, stored};
-ghost use Rattle.state_words.specs.Put.{putFlows, putRegister, putOutcome};
+ghost use Rattle.state_words.specs.Words.{stateWords, rolesIn, stateOf, stateIn, stateOut, withState, rolesHeld, countsStored, stored};
+ghost use Rattle.state_words.specs.Put.{countWords, putFlows, putRegister, putOutcome};
 
 // The words of a state: lines, next identifier, counts of names, edges, dispatches and bads, and from FIRST_ROLE on the roles.
 pub const STATE_WORDS: usize = 85;
@@ -234,14 +235,31 @@ fn put_parts(words: &mut [u64], t: Tally, c: Counts, flows: Flows, rd: u64, outc
     requires { ⌜ stateWords ≤ length (now words) ⌝ }
     ensures { λ _. ⌜ now (words .exit) ≡ withState (now (words .entry)) (stateOf t c (withOutcome (withFlows (rolesIn (now (words .entry))) (flowsOf flows)) rd (outcomeOf outcome))) ⌝ }
 {
+    store_counts(words, t, c);
+    put_flows(words, flows);
+    put_outcome(words, rd, outcome);
+}
+
+// Puts the tally and the counts of a call that changes no role; fewer words than a state has are left as they were.
+pub fn put_counts(words: &mut [u64], t: Tally, c: Counts)
+    ensures { λ _. ⌜ now (words .exit) ≡ countsStored (now (words .entry)) t c ⌝ }
+{
+    if words.len() < STATE_WORDS {
+        return;
+    }
+    store_counts(words, t, c);
+}
+
+fn store_counts(words: &mut [u64], t: Tally, c: Counts)
+    requires { ⌜ stateWords ≤ length (now words) ⌝ }
+    ensures { λ _. ⌜ now (words .exit) ≡ sets (now (words .entry)) 0 (countWords t c) ⌝ }
+{
     words[0] = t.lines as u64;
     words[1] = t.nid;
     words[2] = c.names as u64;
     words[3] = c.edges as u64;
     words[4] = c.dispatches as u64;
     words[5] = c.bads as u64;
-    put_flows(words, flows);
-    put_outcome(words, rd, outcome);
 }
 
 fn put_flows(words: &mut [u64], f: Flows)

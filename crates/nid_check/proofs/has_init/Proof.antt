@@ -10,7 +10,7 @@ use Rattle.line_operator.proofs.Operator.{the-type}
 use Rattle.line_operator.specs.declared.Operator.{Operator}
 use Rattle.line_operator.specs.declared.Operator.the-variants.{Const, Read, Write, Binary, Ext, Ite, Eq, And, Or, Not, State, StateInit, Next, Input, Bad, Unknown}
 use Rattle.line_operator.specs.Operator.{opFrom}
-use Rattle.nid_check.specs.Identifiers.{hasInit}
+use Rattle.btor2.specs.Op.{hasInit}
 use Rattle.nid_check.proofs.has_init.Statement.{statement}
 use Rattle.nid_check.proofs.has_init.Tie as tie
 

@@ -13,7 +13,7 @@ returns c =
     let told = under .before .before in
     let indirect = sym (told .is-indirect .ensures) ∙ under .before .if1 .taken in (
       rw (indirect, under .if2 .taken) (name .put-bad-name .ensures .list),
-      (rw (indirect, under .if2 .taken) refl, rw (indirect, under .if2 .taken, ← place .bad-place .ensures) (bad .put-bad .ensures)),
+      (rw (indirect, under .if2 .taken) refl, rw (indirect, under .if2 .taken, ← place .bad-place .ensures) (bad .put-place .ensures)),
     )
 
 returns-2 : tie.Need-returns-2

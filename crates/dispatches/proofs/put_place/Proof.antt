@@ -2,8 +2,8 @@
 use native.Mathlib.Nat.{mul-one, div-one}
 use borrow.Author.Tests.{lt-ltb, le-ltb}
 use borrow.Author.Needs.{needs}
-use Rattle.dispatches.proofs.put_bad.Statement.{statement}
-use Rattle.dispatches.proofs.put_bad.Tie as tie
+use Rattle.dispatches.proofs.put_place.Statement.{statement}
+use Rattle.dispatches.proofs.put_place.Tie as tie
 
 returns : tie.Need-returns
 returns c = rw (div-one, le-ltb _ _ (c .if1 .taken))
@@ -11,5 +11,5 @@ returns c = rw (div-one, le-ltb _ _ (c .if1 .taken))
 returns-2 : tie.Need-returns-2
 returns-2 c = rw (div-one, lt-ltb _ _ (c .if1 .left), mul-one)
 
-pub put-bad-spec : {M : Type 1} → statement M
-put-bad-spec = tie.close (tie.spec returns (λ c. search needs) (λ c. search needs) (λ c. search needs) returns-2)
+pub put-place-spec : {M : Type 1} → statement M
+put-place-spec = tie.close (tie.spec returns (λ c. search needs) (λ c. search needs) (λ c. search needs) returns-2)

@@ -1,0 +1,12 @@
+-- The code's structs as the programs' records; a place is its number.
+use Prim.Native.Nat.{ℕ}
+use lib.Dec.{eqb}
+use Rattle.control_flow.specs.declared.Bits.{Bits}
+use Rattle.control_flow.specs.declared.Kernel.{Kernel}
+use Rattle.control_flow.specs.ControlFlow as P
+
+abbrev pub bitsOf : Bits → P.Bits ℕ
+bitsOf b = record { zero = b .zero .0; one = b .one .0; isZero = λ p. eqb p (b .zero .0) }
+
+abbrev pub kernelOf : Kernel → P.Kernel ℕ
+kernelOf k = record { mode = k .mode .0; none = k .none .0 }

@@ -1,0 +1,4 @@
+pub mod FlagName
+pub mod Listed
+pub mod ControlFlow
+pub mod Code

@@ -1,0 +1,137 @@
+-- One join of a list of calls, accepted or refused, whatever the host lends with it. Assumes nothing.
+use Prim.Native.Nat.{ℕ, _*_, _≤_, _<_}
+use mathlib.Core.Path.{_≡_, refl, sym, _∙_, ap, subst, fun-ext}
+use mathlib.Core.Bool.{Bool, true, false, cond}
+use mathlib.Core.List.{List, _++_}
+use native.Mathlib.Omega.{arith}
+use borrow.Author.Tests.{eqb-true}
+use lib.Dec.{T, eqb}
+use lib.ListN.{length, take, length-append}
+use Rattle.btor2.specs.declared.NodeRef.{NodeRef}
+use Rattle.btor2.specs.declared.NodeType.the-variants.{Word, Memory}
+use Rattle.btor2.specs.Op.{Op}
+use Rattle.btor2.specs.SortRule.{meetsSortRule, lineIs}
+use Rattle.btor2.specs.Value.{Value, Env, value}
+use Rattle.btor2.proofs.Value.{value-kept}
+use Rattle.btor2.proofs.SortRule.{line-kept}
+use Rattle.btor2_list.specs.Record.{stride}
+use Rattle.roles.specs.Roles.{role, memoryNode, memoryFlow, registerNode, registerFlow}
+use Rattle.meaning.specs.Lines.{operators}
+use Rattle.meaning.proofs.Behind.{inside}
+use Rattle.roles_kept.proofs.RoleSets.{Fit, Roled, fit-node, fit-flow}
+use Rattle.program.specs.Prog.{exec}
+use Rattle.control_flow.specs.Listed.{appendListed}
+use Rattle.join.specs.Refusal.{Lent, Given, programOf, refusalOf}
+use Rattle.join.specs.declared.Held.{Held as JoinHeld}
+use Rattle.join.specs.Join.{Answer, storeOf, settled, refused, joining}
+use Rattle.join_laws.specs.Means.{AcceptedJoin}
+use Rattle.join_laws.proofs.Accepted.{held, joins-mean}
+use Rattle.demand.specs.Calls.{Held, linesIn, Join, join, lentJoin, heldJoin, joinAnswer, joinAccepted, step}
+use Rattle.demand.specs.Demand3.{registerNodeValue, memoryNodeValue, registerFlowValue, memoryFlowValue}
+use Rattle.demand.proofs.Views.{front-operators, front-length}
+use Rattle.demand.proofs.Call.{Good}
+use Rattle.demand.proofs.Step.{Sound}
+
+-- accepted
+abbrev went : Lent → JoinHeld → Given → Answer
+went l k g = settled l k g (exec appendListed (storeOf l k) (programOf (k .state) g))
+
+pick : (t : Bool) (n : ℕ) (a b : Answer) → eqb n 0 ≡ t → a .refusal ≡ 0 → b .refusal ≡ n → cond t a b .refusal ≡ n
+pick true n a b e p q = p ∙ sym (eqb-true n 0 e)
+pick false n a b e p q = q
+
+pub refusal-is : (l : Lent) (k : JoinHeld) (g : Given) → joining l k g .refusal ≡ refusalOf l k g
+unfolding joining settled
+refusal-is l k g = pick (eqb (refusalOf l k g) 0) (refusalOf l k g) (went l k g) (refused (refusalOf l k g) l k g) refl refl refl
+
+same : (t : Bool) (rs : List NodeRef) (a b : Answer) → a .held .state .roles ≡ rs → b .held .state .roles ≡ rs → cond t a b .held .state .roles ≡ rs
+same true rs a b p q = p
+same false rs a b p q = q
+
+module _ (h : Held) (c : Join) where
+  abbrev number : ℕ
+  number = refusalOf (lentJoin h c) (heldJoin h c) (c .given)
+
+  accepted-is : joinAccepted h c ≡ eqb number 0
+  unfolding joinAccepted joinAnswer
+  accepted-is = ap (λ n. eqb n 0) (refusal-is (lentJoin h c) (heldJoin h c) (c .given))
+
+  abbrev taken : Held
+  taken = record { list = joinAnswer h c .lent .list; names = joinAnswer h c .lent .names; state = joinAnswer h c .held .state }
+
+  by-step : (Q : Held → Type 0) → (number ≡ 0 → Q taken) → Q h → Q (step h (join c))
+  unfolding step
+  by-step Q hit miss = go (joinAccepted h c) refl
+    where
+      go : (b : Bool) → joinAccepted h c ≡ b → Q (cond b taken h)
+      go true q = hit (eqb-true number 0 (sym accepted-is ∙ q))
+      go false q = miss
+
+  -- no role changes
+  pub roles-join : step h (join c) .state .roles ≡ h .state .roles
+  unfolding joinAnswer joining settled heldJoin
+  roles-join =
+      by-step (λ x. x .state .roles ≡ h .state .roles)
+      (λ q. same (eqb number 0) (h .state .roles) (went (lentJoin h c) (heldJoin h c) (c .given)) (refused number (lentJoin h c) (heldJoin h c) (c .given)) refl refl) refl
+
+  module _ (s : Sound h) where
+    stored : h .state .tally .lines * stride ≤ length (h .list)
+    unfolding Sound
+    stored = s .stored
+
+    module _ (q : number ≡ 0) where
+      roomy : h .state .tally .lines * stride ≤ length (c .list)
+      unfolding lentJoin heldJoin
+      roomy = omega (arith, held (lentJoin h c) (heldJoin h c) (c .given) q, front-length (take (h .state .tally .lines * stride) (h .list)) (c .list))
+
+      lent-lines : operators (lentJoin h c .list) (h .state .tally .lines) ≡ linesIn h
+      unfolding lentJoin
+      lent-lines = front-operators (h .list) (c .list) (h .state .tally .lines) stored roomy
+
+      accepted : AcceptedJoin (lentJoin h c) (heldJoin h c) (c .given) (joinAnswer h c)
+      unfolding Sound joinAnswer heldJoin
+      accepted = joins-mean (lentJoin h c) (heldJoin h c) (c .given) (subst (λ xs. T (meetsSortRule xs)) (sym lent-lines) (s .sorted)) (s .roles .size) q
+
+      -- the lines after it
+      after : linesIn taken ≡ linesIn h ++ accepted .more
+      unfolding heldJoin
+      after = accepted .extends ∙ ap (λ xs. xs ++ accepted .more) lent-lines
+
+      roled : Roled (linesIn taken) (taken .state .roles)
+      unfolding Sound Fit heldJoin
+      roled = record {
+        size = ap length (accepted .roles) ∙ s .roles .size;
+        fit = λ j m. rw (after, accepted .roles) (subst T (sym (line-kept _ (linesIn h) (accepted .more) (role (h .state .roles) j .0) (inside _ (linesIn h) _ (s .roles .fit j m)))) (s .roles .fit j m));
+      }
+
+    pub sound-join : Sound (step h (join c))
+    unfolding Sound
+    sound-join = by-step (λ x. Good (x .list) (x .state)) (λ q. record { stored = accepted q .stored; sorted = accepted q .sorted; roles = roled q }) s
+
+    pub longer-join : length (linesIn h) ≤ length (linesIn (step h (join c)))
+    longer-join = by-step (λ x. length (linesIn h) ≤ length (linesIn x)) (λ q. rw (after q, length-append (linesIn h) (accepted q .more)) (omega arith)) (omega arith)
+
+    pub values-join : (env : Env) (p : ℕ) → p < length (linesIn h) → value env (linesIn (step h (join c))) p ≡ value env (linesIn h) p
+    values-join env p l = by-step (λ x. value env (linesIn x) p ≡ value env (linesIn h) p) (λ q. ap (λ xs. value env xs p) (after q) ∙ value-kept env (linesIn h) (accepted q .more) p l) refl
+
+    module _ (env : Env) where
+      -- a place that a role has
+      at-role : (f : List NodeRef → NodeRef) → f (h .state .roles) .0 < length (linesIn h)
+          → value env (linesIn (step h (join c))) (f (step h (join c) .state .roles) .0) ≡ value env (linesIn h) (f (h .state .roles) .0)
+      at-role f l = ap (λ rs. value env (linesIn (step h (join c))) (f rs .0)) roles-join ∙ values-join env (f (h .state .roles) .0) l
+
+      pub register-node-join : registerNodeValue env (step h (join c)) ≡ registerNodeValue env h
+      unfolding registerNodeValue Sound
+      register-node-join = fun-ext (λ r. ap (λ u. u .num) (at-role (λ rs. registerNode rs r) (inside Word (linesIn h) _ (fit-node (linesIn h) (h .state .roles) (s .roles .fit) r))))
+
+      pub memory-node-join : memoryNodeValue env (step h (join c)) ≡ memoryNodeValue env h
+      unfolding memoryNodeValue Sound Fit
+      memory-node-join = ap (λ u. u .mem) (at-role (λ rs. role rs memoryNode) (inside Memory (linesIn h) _ (s .roles .fit memoryNode (omega arith))))
+
+      pub register-flow-join : (r : ℕ) → registerFlowValue env (step h (join c)) r ≡ registerFlowValue env h r
+      unfolding registerFlowValue Sound
+      register-flow-join r = ap (λ u. u .num) (at-role (λ rs. registerFlow rs r) (inside Word (linesIn h) _ (fit-flow (linesIn h) (h .state .roles) (s .roles .fit) r)))
+
+      pub memory-flow-join : (a : ℕ) → memoryFlowValue env (step h (join c)) a ≡ memoryFlowValue env h a
+      unfolding memoryFlowValue Sound Fit
+      memory-flow-join a = ap (λ u. u .mem a) (at-role (λ rs. role rs memoryFlow) (inside Memory (linesIn h) _ (s .roles .fit memoryFlow (omega arith))))

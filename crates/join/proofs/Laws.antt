@@ -1,0 +1,22 @@
+-- A refused join, and the roles. Assumes nothing.
+use mathlib.Core.Path.{_≡_, refl}
+use mathlib.Core.Bool.{Bool, true, false, cond}
+use mathlib.Core.List.{List}
+use borrow.Author.Tests.{ne-eqb}
+use lib.Dec.{eqb}
+use Rattle.btor2.specs.declared.NodeRef.{NodeRef}
+use Rattle.join.specs.Refusal.{refusalOf}
+use Rattle.join.specs.Join.{Answer, settled, joining}
+use Rattle.join.specs.Laws.{RefusedLeaves, RolesStay}
+
+pub refused-leaves : RefusedLeaves
+unfolding joining
+refused-leaves l h g n = rw (ne-eqb (refusalOf l h g) 0 n)
+
+either : (t : Bool) (roles : List NodeRef) (a b : Answer) → a .held .state .roles ≡ roles → b .held .state .roles ≡ roles → cond t a b .held .state .roles ≡ roles
+either true roles a b p q = p
+either false roles a b p q = q
+
+pub roles-stay : RolesStay
+unfolding joining settled
+roles-stay l h g = either (eqb (refusalOf l h g) 0) (h .state .roles) _ _ refl refl

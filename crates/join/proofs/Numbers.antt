@@ -1,0 +1,130 @@
+-- The number of a join's refusal by its tests, and what a join that is not refused has passed. Assumes nothing.
+use Prim.Native.Nat.{ℕ, _*_, _/_, _≤_}
+use mathlib.Core.Path.{_≡_, refl}
+use mathlib.Core.Bool.{Bool, true, false, not, _||_}
+use mathlib.Core.List.{List, [], _∷_}
+use native.Mathlib.Omega.{arith}
+use borrow.Author.Tests.{ltb-false}
+use lib.Dec.{ltb}
+use lib.ListN.{length}
+use Rattle.btor2_list.specs.Record.{stride}
+use Rattle.edges.specs.Edges.{edgeStride}
+use Rattle.edges.specs.Records.{dispatchStride}
+use Rattle.riscv.specs.Refusal.{first}
+use Rattle.riscv.proofs.First.{hit, miss}
+use Rattle.roles_check.specs.RolesFit.{rolesFit}
+use Rattle.lowering_refusals.specs.Refusal.{mostLines, mostNid}
+use Rattle.lowering_refusals.proofs.Within.{neither}
+use Rattle.join.specs.declared.Held.{Held}
+use Rattle.join.specs.Given.{flagStride}
+use Rattle.join.specs.Refusal.{Lent, Given, edgesOf, dispatchesOf, countsOut, flagsOut, edgesOut, dispatchesOut, roomOut, refusalOf}
+
+module _ (l : Lent) (h : Held) (g : Given) where
+  abbrev lines : ℕ
+  lines = h .state .tally .lines
+
+  abbrev pub rolesOut : Bool
+  rolesOut = not (rolesFit (l .list) lines 0 (h .state .roles))
+
+  abbrev pub recordsOut : Bool
+  recordsOut = edgesOut (l .list) lines (edgesOf g) || dispatchesOut (l .list) lines (dispatchesOf g)
+
+  abbrev Tests : Type 0
+  Tests = List (Bool × ℕ)
+
+  abbrev from8 : Tests
+  from8 = (roomOut l h g, 8) ∷ []
+
+  abbrev from16 : Tests
+  from16 = (recordsOut, 16) ∷ from8
+
+  abbrev from15 : Tests
+  from15 = (flagsOut (l .list) lines g, 15) ∷ from16
+
+  abbrev from13 : Tests
+  from13 = (rolesOut, 13) ∷ from15
+
+  -- ---- the number, where the tests before it are passed
+
+  pub is-9 : countsOut l h g ≡ true → 9 ≡ refusalOf l h g
+  unfolding refusalOf
+  is-9 e = hit 9 from13 e
+
+  module _ (e9 : countsOut l h g ≡ false) where
+    pub is-13 : rolesOut ≡ true → 13 ≡ refusalOf l h g
+    unfolding refusalOf
+    is-13 e = miss 9 from13 e9 (hit 13 from15 e)
+
+    module _ (e13 : rolesOut ≡ false) where
+      pub is-15 : flagsOut (l .list) lines g ≡ true → 15 ≡ refusalOf l h g
+      unfolding refusalOf
+      is-15 e = miss 9 from13 e9 (miss 13 from15 e13 (hit 15 from16 e))
+
+      module _ (e15 : flagsOut (l .list) lines g ≡ false) where
+        pub is-16 : recordsOut ≡ true → 16 ≡ refusalOf l h g
+        unfolding refusalOf
+        is-16 e = miss 9 from13 e9 (miss 13 from15 e13 (miss 15 from16 e15 (hit 16 from8 e)))
+
+        module _ (e16 : recordsOut ≡ false) where
+          pub is-8 : roomOut l h g ≡ true → 8 ≡ refusalOf l h g
+          unfolding refusalOf
+          is-8 e = miss 9 from13 e9 (miss 13 from15 e13 (miss 15 from16 e15 (miss 16 from8 e16 (hit 8 [] e))))
+
+          pub is-0 : roomOut l h g ≡ false → 0 ≡ refusalOf l h g
+          unfolding refusalOf
+          is-0 e = miss 9 from13 e9 (miss 13 from15 e13 (miss 15 from16 e15 (miss 16 from8 e16 (miss 8 [] e refl))))
+
+  -- ---- what is passed
+
+  pub record Within : Type 0 where
+    pub most : lines ≤ mostLines
+    pub nids : h .state .tally .nid ≤ mostNid
+    pub held : lines ≤ length (l .list) / stride
+    pub names : h .state .counts .names ≤ length (l .names)
+    pub edges : g .asked .edges * edgeStride ≤ length (g .edges)
+    pub dispatches : g .asked .dispatches * dispatchStride ≤ length (g .dispatches)
+    pub flags : g .asked .flags * flagStride ≤ length (g .flags)
+    pub sequentials : h .sequentials ≤ length (l .sequentials)
+
+  pub within : countsOut l h g ≡ false → Within
+  within e =
+      let p1 = neither (ltb mostLines lines) _ e in
+      let p2 = neither (ltb mostNid (h .state .tally .nid)) _ (p1 .1) in
+      let p3 = neither (ltb (length (l .list) / stride) lines) _ (p2 .1) in
+      let p4 = neither (ltb (length (l .names)) (h .state .counts .names)) _ (p3 .1) in
+      let p5 = neither (ltb (length (g .edges) / edgeStride) (g .asked .edges)) _ (p4 .1) in
+      let p6 = neither (ltb (length (g .dispatches) / dispatchStride) (g .asked .dispatches)) _ (p5 .1) in
+      let p7 = neither (ltb (length (g .flags) / flagStride) (g .asked .flags)) _ (p6 .1) in
+      record {
+        most = ltb-false _ _ (p1 .0);
+        nids = ltb-false _ _ (p2 .0);
+        held = ltb-false _ _ (p3 .0);
+        names = ltb-false _ _ (p4 .0);
+        edges = omega (arith, ltb-false (length (g .edges) / edgeStride) (g .asked .edges) (p5 .0));
+        dispatches = omega (arith, ltb-false (length (g .dispatches) / dispatchStride) (g .asked .dispatches) (p6 .0));
+        flags = omega (arith, ltb-false (length (g .flags) / flagStride) (g .asked .flags) (p7 .0));
+        sequentials = ltb-false _ _ (p7 .1);
+      }
+
+  passes : (t : Bool) (n : ℕ) (ts : Tests) → (n ≡ 0 → ⊥) → first ((t, n) ∷ ts) ≡ 0 → (t ≡ false) × (first ts ≡ 0)
+  passes true n ts z e = absurd (z e)
+  passes false n ts z e = (refl, e)
+
+  pub record Passed : Type 0 where
+    pub counts : Within
+    pub roles : rolesOut ≡ false
+    pub flags : flagsOut (l .list) lines g ≡ false
+    pub edges : edgesOut (l .list) lines (edgesOf g) ≡ false
+    pub dispatches : dispatchesOut (l .list) lines (dispatchesOf g) ≡ false
+    pub room : roomOut l h g ≡ false
+
+  pub passed : refusalOf l h g ≡ 0 → Passed
+  unfolding refusalOf
+  passed e =
+      let p9 = passes (countsOut l h g) 9 from13 (λ z. omega arith) e in
+      let p13 = passes rolesOut 13 from15 (λ z. omega arith) (p9 .1) in
+      let p15 = passes (flagsOut (l .list) lines g) 15 from16 (λ z. omega arith) (p13 .1) in
+      let p16 = passes recordsOut 16 from8 (λ z. omega arith) (p15 .1) in
+      let p8 = passes (roomOut l h g) 8 [] (λ z. omega arith) (p16 .1) in
+      let b = neither (edgesOut (l .list) lines (edgesOf g)) _ (p16 .0) in
+      record { counts = within (p9 .0); roles = p13 .0; flags = p15 .0; edges = b .0; dispatches = b .1; room = p8 .0 }

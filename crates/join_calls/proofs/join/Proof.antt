@@ -1,0 +1,53 @@
+-- Refused, all stays; accepted, the program is run. Assumes nothing.
+use Prim.Native.Nat.{_<_, _^_}
+use mathlib.Core.Path.{_≡_, refl, sym, _∙_}
+use native.Mathlib.Omega.{arith}
+use borrow.Author.Needs.{needs}
+use borrow.Author.Tests.{eq-eqb}
+use denote.Ref.{now}
+use lib.ListN.{length}
+use Rattle.builder.proofs.Gives.{free}
+use Rattle.join.specs.Refusal.{Lent, lent, Given, given, refusalOf}
+use Rattle.join.specs.Join.{joining}
+use Rattle.join.proofs.Laws.{refused-leaves}
+use Rattle.join.proofs.Numbers.{passed}
+use Rattle.join_calls.proofs.Entry.{counts-fit}
+use Rattle.join_calls.proofs.join.Statement.{statement}
+use Rattle.join_calls.proofs.join.Tie as tie
+
+abbrev lent-to : tie.Start → Lent
+lent-to s = lent (now (s .args .list)) (now (s .args .names)) (now (s .args .sequentials))
+
+abbrev given-to : tie.Start → Given
+given-to s = let a = s .args in given (now (a .edges)) (now (a .dispatches)) (now (a .flags)) (now (a .dynamics)) (a .a)
+
+number : (c : tie.After-refuse) → let s = c .before .before .before .before .before .before .before .before in c .refuse .result ≡ refusalOf (lent-to s) (s .args .h) (given-to s)
+number c = let s = c .before .before .before .before .before .before .before .before in c .refuse .ensures (now (s .args .names)) (now (s .args .sequentials)) refl refl
+
+accept-requires : tie.Need-accept-requires
+accept-requires c κs =
+    let s = c .before .before .before .before .before .before .before .before .before .before .before .before in
+    let p = passed (lent-to s) (s .args .h) (given-to s) (sym (number (c .before .before .before .before)) ∙ c .before .before .before .if1 .left) in
+    record {
+      edges = p .counts .edges;
+      dispatches = p .counts .dispatches;
+      flags = p .counts .flags;
+      room = counts-fit (lent-to s) (s .args .h) (given-to s) (search needs) (search needs) (p .room);
+    }
+
+returns : tie.Need-returns
+returns c =
+    let s = c .before .before .before .before .before .before .before .before .before .before in
+    let n = number (c .before .before) in
+    rw n (sym (refused-leaves (lent-to s) (s .args .h) (given-to s) (λ z. c .before .if1 .taken (n ∙ z))))
+
+returns-2 : tie.Need-returns-2
+unfolding joining
+returns-2 c =
+    let s = c .before .before .before .before .before .before .before .before .before .before .before .before .before .before .before .before .before .before .before in
+    rw (eq-eqb (refusalOf (lent-to s) (s .args .h) (given-to s)) 0 (sym (number (c .before .before .before .before .before .before .before .before .before .before .before)) ∙ c .before .before .before .before .before .before .before .before .before .before .if1 .left)) (c .before .before .before .before .before .before .accept .ensures)
+
+pub join-spec : {M : Type 1} → statement M
+join-spec =
+    tie.close
+    (tie.spec free (λ c. search needs) returns accept-requires (λ c. search needs) (λ c. search needs) (λ c. search needs) returns-2)

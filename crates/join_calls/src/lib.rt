@@ -1,0 +1,392 @@
+// The join of one address's edges and dispatches into its flag: the refusals first, then the lines.
+mod lines;
+mod refusals;
+mod room;
+
+use btor2::NodeRef;
+use btor2_list::STRIDE;
+use builder::Made;
+use builder::Tally;
+use control_flow::Bits;
+use control_flow::Kernel;
+use dispatches::DISPATCH;
+use edges::EDGE;
+use join::Asked;
+use join::Held;
+use join::Joined;
+use lines::FLAG;
+use lines::Joining;
+use lines::join_dispatches;
+use lines::join_edges;
+use lowering_refusals::Counts;
+use lowering_refusals::MOST_LINES;
+use lowering_refusals::MOST_NID;
+use lowering_refusals::State;
+use refusals::dispatches_out;
+use refusals::edges_out;
+use refusals::flags_out;
+use room::Left;
+use room::room_exceeded;
+use state_words::STATE_WORDS;
+ghost use mathlib.Core.Path.{_≡_};
+ghost use mathlib.Core.List.{List};
+ghost use Prim.Native.Nat.{ℕ, min};
+ghost use lib.ListN.{length};
+ghost use Rattle.control_flow.specs.Listed.{appendListed};
+ghost use Rattle.program.specs.Prog.{exec};
+ghost use Rattle.roles.specs.Roles.{role, zeroBit, roleCount};
+ghost use Rattle.lowering_refusals.specs.Refusal.{mostLines};
+ghost use Rattle.join.specs.Refusal.{lent, given, programOf, refusalOf};
+ghost use Rattle.join.specs.Join.{answer, storeOf, settled, joining};
+ghost use Rattle.join.specs.Words.{givenJoin, joiningWords};
+ghost use Rattle.state_words.specs.Words.{countsStored};
+ghost use Rattle.join_calls.specs.Entry.{heldIn, countsOutBy, Within, leftOf, kernelBy, begun, heldAfter, Ready};
+
+// A count above its storage.
+const BAD_COUNT: u64 = 9;
+
+// Joins one address's edges, then its dispatches, into a flow. What is held says how much of the list, our name area and the sequentials is in
+// use, the next identifier and the roles. An edge has four words, a dispatch and a flag two each; the dynamic flags are those of x1 to x31. A
+// refused call changes nothing.
+pub fn join(
+    list: &mut [u64],
+    names: &mut [u8],
+    sequentials: &mut [u64],
+    edges: &[u64],
+    dispatches: &[u64],
+    flags: &[u64],
+    dynamics: &[u64; 31],
+    a: Asked,
+    h: Held,
+) -> Joined
+    ensures { λ r. ⌜ answer (r .refusal) (r .flow .0) (r .held) (lent (now (list .exit)) (now (names .exit)) (now (sequentials .exit))) ≡ joining (lent (now (list .entry)) (now (names .entry)) (now (sequentials .entry))) h (given (now (edges .entry)) (now (dispatches .entry)) (now (flags .entry)) (now (dynamics .entry)) a) ⌝ }
+{
+    let refusal = refuse(
+        list,
+        names.len(),
+        sequentials.len(),
+        edges,
+        dispatches,
+        flags,
+        dynamics,
+        a,
+        h,
+    );
+    if refusal != 0 {
+        let flow = a.flow;
+        return Joined {
+            refusal,
+            flow,
+            held: h,
+        };
+    }
+    accept(
+        list,
+        names,
+        sequentials,
+        edges,
+        dispatches,
+        flags,
+        dynamics,
+        a,
+        h,
+    )
+}
+
+// What a join over the state's words gives: its refusal, 0 where there is none, the flow, and how many sequentials there are.
+pub struct JoinedWords {
+    pub refusal: u64,
+    pub flow: NodeRef,
+    pub sequentials: usize,
+}
+
+// The same over the state's words, which the host keeps, with so many sequentials in use; 9 where there are fewer words than a state has.
+pub fn join_words(
+    list: &mut [u64],
+    names: &mut [u8],
+    sequentials: &mut [u64],
+    state: &mut [u64],
+    edges: &[u64],
+    dispatches: &[u64],
+    flags: &[u64],
+    dynamics: &[u64; 31],
+    a: Asked,
+    used: usize,
+) -> JoinedWords
+    ensures { λ r. ⌜ givenJoin (r .refusal) (r .flow .0) (r .sequentials) (lent (now (list .exit)) (now (names .exit)) (now (sequentials .exit))) (now (state .exit)) ≡ joiningWords (lent (now (list .entry)) (now (names .entry)) (now (sequentials .entry))) (now (state .entry)) used (given (now (edges .entry)) (now (dispatches .entry)) (now (flags .entry)) (now (dynamics .entry)) a) ⌝ }
+{
+    if state.len() < STATE_WORDS {
+        let flow = a.flow;
+        return JoinedWords {
+            refusal: BAD_COUNT,
+            flow,
+            sequentials: used,
+        };
+    }
+    let before = held_in(state, used);
+    let joined = join(
+        list,
+        names,
+        sequentials,
+        edges,
+        dispatches,
+        flags,
+        dynamics,
+        a,
+        before,
+    );
+    let held = joined.held;
+    put_held(state, held);
+    let flow = joined.flow;
+    JoinedWords {
+        refusal: joined.refusal,
+        flow,
+        sequentials: held.sequentials,
+    }
+}
+
+// What the state's words and the count of sequentials say is held.
+fn held_in(words: &[u64], used: usize) -> Held
+    ensures { λ r. ⌜ r ≡ heldIn (now (words .entry)) used ⌝ }
+{
+    let state = state_words::state_in(words);
+    Held {
+        state,
+        sequentials: used,
+    }
+}
+
+// Puts the tally and the counts; a join changes no role.
+fn put_held(words: &mut [u64], h: Held)
+    ensures { λ _. ⌜ now (words .exit) ≡ countsStored (now (words .entry)) (h .state .tally) (h .state .counts) ⌝ }
+{
+    let state = h.state;
+    let t = state.tally;
+    let c = state.counts;
+    state_words::put_counts(words, t, c);
+}
+
+// The first of 9, 13, 15, 16 and 8 that applies, or 0. Of our name area and the sequentials the lengths matter alone.
+fn refuse(
+    list: &[u64],
+    names: usize,
+    sequentials: usize,
+    edges: &[u64],
+    dispatches: &[u64],
+    flags: &[u64],
+    dynamics: &[u64; 31],
+    a: Asked,
+    h: Held,
+) -> u64
+    ensures { λ r. ⌜ ((ours places : List ℕ) → length ours ≡ names → length places ≡ sequentials → r ≡ refusalOf (lent (now (list .entry)) ours places) h (given (now (edges .entry)) (now (dispatches .entry)) (now (flags .entry)) (now (dynamics .entry)) a)) ⌝ }
+{
+    if counts_out(
+        list.len(),
+        names,
+        sequentials,
+        edges.len(),
+        dispatches.len(),
+        flags.len(),
+        a,
+        h,
+    ) {
+        return BAD_COUNT;
+    }
+    let state = h.state;
+    let t = state.tally;
+    let places = state.roles;
+    if roles_check::roles_out(list, t.lines, places) {
+        return 13;
+    }
+    let k = kernel_of(a);
+    let flow = a.flow;
+    if flags_out(
+        list,
+        t.lines,
+        edges,
+        a.edges,
+        flags,
+        a.flags,
+        k,
+        dynamics,
+        flow,
+    ) {
+        return 15;
+    }
+    if edges_out(list, t.lines, edges, a.edges)
+        | dispatches_out(list, t.lines, dispatches, a.dispatches)
+    {
+        return 16;
+    }
+    let zero = zero_bit(places);
+    let left = room_left(list.len() / STRIDE, names, sequentials, a, h);
+    if room_exceeded(edges, a.edges, flags, a.flags, a.dispatches, zero, left) {
+        return 8;
+    }
+    0
+}
+
+// The zero bit, and how many roles their type gives.
+fn zero_bit(places: [NodeRef; 79]) -> NodeRef
+    ensures is { λ r. ⌜ r ≡ role places zeroBit ⌝ }
+    ensures size { λ r. ⌜ length places ≡ roleCount ⌝ }
+{
+    places[roles::ZERO_BIT]
+}
+
+// 9: too many lines, too large a next identifier, or a count above its storage, which has these lengths.
+fn counts_out(
+    list: usize,
+    names: usize,
+    sequentials: usize,
+    edges: usize,
+    dispatches: usize,
+    flags: usize,
+    a: Asked,
+    h: Held,
+) -> bool
+    ensures { λ r. ⌜ r ≡ countsOutBy list names sequentials edges dispatches flags h a ⌝ }
+{
+    let state = h.state;
+    let t = state.tally;
+    let c = state.counts;
+    (MOST_LINES < t.lines)
+        | ((MOST_NID < t.nid)
+            | ((list / STRIDE < t.lines)
+                | ((names < c.names)
+                    | ((edges / EDGE < a.edges)
+                        | ((dispatches / DISPATCH < a.dispatches)
+                            | ((flags / FLAG < a.flags) | (sequentials < h.sequentials)))))))
+}
+
+// What room is left of storage that holds so many lines, bytes and sequentials.
+fn room_left(lines: usize, names: usize, sequentials: usize, a: Asked, h: Held) -> Left
+    requires { ⌜ Within lines names sequentials h ⌝ }
+    ensures { λ r. ⌜ r ≡ leftOf lines names sequentials h a ⌝ }
+{
+    let state = h.state;
+    let t = state.tally;
+    let c = state.counts;
+    let places = state.roles;
+    let zero = places[roles::ZERO_BIT];
+    let flow = a.flow;
+    Left {
+        lines: at_most(lines) - t.lines,
+        names: names - c.names,
+        sequentials: sequentials - h.sequentials,
+        zero: flow.0 == zero.0,
+    }
+}
+
+// How many lines a list that holds so many may have.
+fn at_most(held: usize) -> usize
+    ensures { λ r. ⌜ r ≡ min held mostLines ⌝ }
+{
+    if held < MOST_LINES {
+        return held;
+    }
+    MOST_LINES
+}
+
+// What an accepted call does.
+fn accept(
+    list: &mut [u64],
+    names: &mut [u8],
+    sequentials: &mut [u64],
+    edges: &[u64],
+    dispatches: &[u64],
+    flags: &[u64],
+    dynamics: &[u64; 31],
+    a: Asked,
+    h: Held,
+) -> Joined
+    requires { ⌜ Ready h (given (now edges) (now dispatches) (now flags) (now dynamics) a) ⌝ }
+    ensures { λ r. ⌜ answer (r .refusal) (r .flow .0) (r .held) (lent (now (list .exit)) (now (names .exit)) (now (sequentials .exit))) ≡ settled (lent (now (list .entry)) (now (names .entry)) (now (sequentials .entry))) h (given (now (edges .entry)) (now (dispatches .entry)) (now (flags .entry)) (now (dynamics .entry)) a) (exec appendListed (storeOf (lent (now (list .entry)) (now (names .entry)) (now (sequentials .entry))) h) (programOf (h .state) (given (now (edges .entry)) (now (dispatches .entry)) (now (flags .entry)) (now (dynamics .entry)) a))) ⌝ }
+{
+    let state = h.state;
+    let places = state.roles;
+    let bits = Bits {
+        zero: places[roles::ZERO_BIT],
+        one: places[roles::ONE_BIT],
+    };
+    let k = kernel_of(a);
+    let begun = begin(a, h);
+    let joined = join_edges(
+        list,
+        names,
+        sequentials,
+        edges,
+        a.edges,
+        flags,
+        a.flags,
+        bits,
+        k,
+        begun,
+    );
+    let tally = joined.tally;
+    let node = joined.flow;
+    let made = join_dispatches(
+        list,
+        dispatches,
+        a.dispatches,
+        places,
+        dynamics,
+        bits,
+        Made { tally, node },
+    );
+    let flow = made.node;
+    let after = made.tally;
+    let held = held_after(h, after, joined.names, joined.sequentials);
+    Joined {
+        refusal: 0,
+        flow,
+        held,
+    }
+}
+
+// The kernel nodes.
+fn kernel_of(a: Asked) -> Kernel
+    ensures { λ r. ⌜ r ≡ kernelBy a ⌝ }
+{
+    let mode = a.mode;
+    let none = a.none;
+    Kernel { mode, none }
+}
+
+// Where a join begins.
+fn begin(a: Asked, h: Held) -> Joining
+    ensures { λ r. ⌜ r ≡ begun h a ⌝ }
+{
+    let state = h.state;
+    let tally = state.tally;
+    let c = state.counts;
+    let flow = a.flow;
+    Joining {
+        tally,
+        sequentials: h.sequentials,
+        names: c.names,
+        flow,
+    }
+}
+
+// What passes on: no role changes, and of the counts that of our names alone.
+fn held_after(h: Held, tally: Tally, names: usize, sequentials: usize) -> Held
+    ensures { λ r. ⌜ r ≡ heldAfter h tally names sequentials ⌝ }
+{
+    let state = h.state;
+    let c = state.counts;
+    let roles = state.roles;
+    Held {
+        state: State {
+            tally,
+            counts: Counts {
+                names,
+                edges: c.edges,
+                dispatches: c.dispatches,
+                bads: c.bads,
+            },
+            roles,
+        },
+        sequentials,
+    }
+}

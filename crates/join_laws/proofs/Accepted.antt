@@ -1,0 +1,302 @@
+-- An accepted join: its lines stand after the others, and its flow means what it should. Assumes nothing.
+use Prim.Native.Nat.{ℕ, zero, suc, _+_, _*_, _/_, _-_, _≤_, _<_, _^_}
+use native.Mathlib.Omega.{arith}
+use native.Mathlib.Nat.{add-zero}
+use mathlib.Core.Path.{_≡_, refl, sym, _∙_, ap, subst}
+use mathlib.Core.Bool.{Bool, true, false, cond, not, _&&_, _||_}
+use mathlib.Core.List.{List, [], _∷_, _++_, map}
+use borrow.Author.Tests.{ltb-false, ltb-true, lt-ltb, le-ltb, eqb-true, eqb-false, not-false, eq-eqb}
+use lib.Dec.{T, eqb, ltb}
+use lib.ListN.{length, getD, drop}
+use lib.Seq.{length-sets}
+use Rattle.btor2.specs.declared.NodeType.the-variants.{Bit as B1, Word as W}
+use Rattle.btor2.specs.Op.{Op}
+use Rattle.btor2.specs.SortRule.{meetsSortRule, lineIs}
+use Rattle.btor2.specs.Value.{Env, value}
+use Rattle.btor2.proofs.Range.{value-fits}
+use Rattle.btor2_list.specs.Record.{stride}
+use Rattle.btor2_list.specs.Look.{lookAt}
+use Rattle.btor2_list.specs.View.{view}
+use Rattle.btor2_list.proofs.Stored.{below, above}
+use Rattle.builder.specs.declared.Tally.{Tally}
+use Rattle.builder.specs.Append.{Store, at, append}
+use Rattle.program.specs.Prog.{Prog, Run, ran, exec}
+use Rattle.riscv.specs.Refusal.{first}
+use Rattle.roles.specs.Roles.{role, roleCount, lastRegister, registerNode}
+use Rattle.roles_check.specs.RolesFit.{valueSort, rolesFit}
+use Rattle.edges.specs.Edges.{branchOrigin, syscallOrigin}
+use Rattle.lowering_refusals.specs.Refusal.{mostLines, mostNid}
+use Rattle.lowering_refusals.proofs.Within.{neither}
+use Rattle.program.specs.Lines.{linesOf, resultOf, placeAfter}
+use Rattle.lowering_laws.specs.Lines.{numbered, taking}
+use Rattle.lowering_laws.specs.Elsewhere.{Elsewhere}
+use Rattle.lowering_laws.proofs.Laid.{Room, Laid, laid, taking-most}
+use Rattle.meaning.specs.Lines.{operators}
+use Rattle.meaning.proofs.Behind.{inside}
+use Rattle.roles_kept.proofs.Views.{operators-length, numbered-operators, map-append, look-is}
+use Rattle.roles_kept.proofs.RoleSets.{Fit, fit-given, fit-node}
+use Rattle.join.specs.Program.{Edge, Dispatch, join}
+use Rattle.join.specs.Given.{dynamicCount, dynamicFor, noFlag, dispatchesIn}
+use Rattle.control_flow.specs.Listed.{Listed, listed, appendListed}
+use Rattle.join.specs.Program.{namesOf, nextsOf}
+use Rattle.control_flow.proofs.Lists.{forgets}
+use Rattle.join.specs.declared.Held.{Held}
+use Rattle.join.specs.Refusal.{Lent, Given, edgesOf, dispatchesOf, flagOf, bitsIn, kernelIn, programOf, countsOut, bitOut, wordOut, edgesUnflagged, tableOut, dynamicsOut, flagsOut, edgesOut, dispatchesOut, lineCount, roomOut, refusalOf}
+use Rattle.join.specs.Join.{Answer, storeOf, settled, joining}
+use Rattle.join.proofs.Numbers.{Passed, passed}
+use Rattle.join_laws.specs.Push.{pushed}
+use Rattle.join_laws.specs.Active as Act
+use Rattle.join_laws.specs.Means.{ZeroAndOne, AcceptedJoin, JoinsMean}
+use Rattle.join_laws.proofs.Pushed.{pushed-lines}
+use Rattle.join_laws.proofs.Edges.{join-means, plain-means}
+use Rattle.join_laws.proofs.Sequentials.{listed-else}
+use Rattle.join_laws.proofs.Fit.{fit-lines, joined}
+use Rattle.join_laws.proofs.Sorts as S
+
+-- ---- a run by the append, as a run on the lines
+
+pub laid-pushed : {X : Type 0} (p : Prog ℕ X) (m : ℕ) (ws : List ℕ) (t : Tally) (r : Run Store X) → Laid (t .lines) 0 m ws t p r
+    → ran (operators (r .state .words) (r .state .tally .lines)) (r .value) ≡ pushed (operators ws (t .lines)) p
+unfolding operators
+laid-pushed {X} p m ws t r l =
+    ap (λ (v : List _). ran (map (λ line. line .op) v) (r .value)) (l .nodes)
+    ∙ ap (λ v. ran v (r .value)) (map-append (view ws (t .lines)) (numbered (t .nid) L) ∙ ap (λ os. xs ++ os) (numbered-operators (t .nid) L))
+    ∙ ap (λ x. ran (xs ++ L) x) (l .value)
+    ∙ sym (pushed-lines p xs (t .lines) 0 (operators-length ws (t .lines) ∙ sym (add-zero _)))
+  where
+    L : List (Op ℕ)
+    L = linesOf (placeAfter (t .lines)) 0 p
+
+    xs : List (Op ℕ)
+    xs = map (λ line. line .op) (view ws (t .lines))
+
+-- ---- the dynamic flags
+
+one-in : (ws : List ℕ) (n k : ℕ) (ds : List ℕ) → dynamicsOut ws n k ds ≡ false → (i : ℕ) → i < k → bitOut ws n (getD ds i noFlag) ≡ false
+unfolding dynamicsOut
+one-in ws n zero ds o i h = absurd (omega arith)
+one-in ws n (suc k) ds o zero h = neither (bitOut ws n (getD ds 0 noFlag)) _ o .0
+one-in ws n (suc k) ds o (suc i) h = next ds (one-in ws n k (drop 1 ds) (neither (bitOut ws n (getD ds 0 noFlag)) _ o .1) i (omega arith))
+  where
+    next : (ds : List ℕ) → bitOut ws n (getD (drop 1 ds) i noFlag) ≡ false → bitOut ws n (getD ds (suc i) noFlag) ≡ false
+    next [] q = q
+    next (d ∷ ds) q = q
+
+dynamic-in : (ws : List ℕ) (n : ℕ) (ds : List ℕ) → dynamicsOut ws n dynamicCount ds ≡ false → (r : ℕ) → eqb r 0 ≡ false → r ≤ lastRegister → bitOut ws n (dynamicFor ds r) ≡ false
+dynamic-in ws n ds o r z m = let more : r ≡ 0 → ⊥ = eqb-false r 0 z in rw z (one-in ws n dynamicCount ds o (r - 1) (omega (arith, more)))
+
+module _ (l : Lent) (h : Held) (g : Given) (e : refusalOf l h g ≡ 0) where
+  abbrev lines : ℕ
+  lines = h .state .tally .lines
+
+  its : Passed l h g
+  its = passed l h g e
+
+  pub held : lines * stride ≤ length (l .list)
+  held = omega (arith, its .counts .held)
+
+  -- the lines fit
+  pub room : Room (l .list) (h .state .tally) (lineCount (h .state) g) (taking (linesOf (placeAfter lines) 0 (programOf (h .state) g)))
+  unfolding roomOut lineCount
+  room =
+      let p = neither (ltb mostLines (lines + lineCount (h .state) g)) _ (its .room) in
+      let q = neither (ltb (length (l .list) / stride) (lines + lineCount (h .state) g)) _ (p .1) in
+      record {
+        lines = ltb-false (length (l .list) / stride) (lines + lineCount (h .state) g) (q .0);
+        nids = omega (arith, its .counts .nids, ltb-false mostLines (lines + lineCount (h .state) g) (p .0), taking-most (linesOf (placeAfter lines) 0 (programOf (h .state) g)));
+      }
+
+  pub its-run : Laid lines 0 (lineCount (h .state) g) (l .list) (h .state .tally) (programOf (h .state) g) (exec append (at (l .list) (h .state .tally)) (programOf (h .state) g))
+  unfolding lineCount programOf
+  its-run =
+      laid (programOf (h .state) g) lines 0 (l .list) (h .state .tally) (sym (add-zero _)) room
+      (fit-lines (joined (bitsIn (h .state)) (kernelIn g) (flagOf g) (λ r. registerNode (h .state .roles) r .0) (dynamicFor (g .dynamics)) (h .state .counts .names) (edgesOf g) (dispatchesOf g) (g .asked .flow .0)) (placeAfter lines) 0)
+
+module _ (l : Lent) (h : Held) (g : Given) (sorted : T (meetsSortRule (operators (l .list) (h .state .tally .lines)))) (given : length (h .state .roles) ≡ roleCount) (e : refusalOf l h g ≡ 0) where
+  abbrev n : ℕ
+  n = h .state .tally .lines
+
+  abbrev xs : List (Op ℕ)
+  xs = operators (l .list) n
+
+  -- ---- what it refers to
+
+  is-bit : (p : ℕ) → bitOut (l .list) n p ≡ false → T (lineIs B1 xs p)
+  is-bit p o = look-is (l .list) n (held l h g e) p B1 (eqb-true _ _ (not-false _ o))
+
+  is-word : (p : ℕ) → wordOut (l .list) n p ≡ false → T (lineIs W xs p)
+  is-word p o = look-is (l .list) n (held l h g e) p W (eqb-true _ _ (not-false _ o))
+
+  fit : Fit xs (h .state .roles)
+  fit = fit-given (l .list) n (h .state .roles) (held l h g e) given (subst T (sym (not-false (rolesFit (l .list) n 0 (h .state .roles)) (its l h g e .roles))) tt)
+
+  its-node : (r : ℕ) → T (lineIs W xs (registerNode (h .state .roles) r .0))
+  its-node = fit-node xs (h .state .roles) fit
+
+  its-bit : (j : ℕ) → j < 2 → T (lineIs B1 xs (role (h .state .roles) j .0))
+  unfolding Fit
+  its-bit zero m = fit 0 (omega arith)
+  its-bit (suc zero) m = fit 1 (omega arith)
+  its-bit (suc (suc j)) m = absurd (omega arith)
+
+  -- ---- the sort rule
+
+  sorts : (es : List (Edge ℕ)) → edgesUnflagged (l .list) n (flagOf g) es ≡ false → edgesOut (l .list) n es ≡ false → S.AllSorts (bitsIn (h .state)) (kernelIn g) (flagOf g) xs es
+  unfolding edgesUnflagged edgesOut
+  sorts [] u o = tt
+  sorts (x ∷ es) u o =
+      let a = neither (bitOut (l .list) n (flagOf g (x .from))) _ u in
+      let c = neither (ltb syscallOrigin (x .origin) || (eqb (x .origin) branchOrigin && bitOut (l .list) n (x .condition))) _ o in
+      let d = neither (ltb syscallOrigin (x .origin)) _ (c .0) in (
+        record { flag = is-bit (flagOf g (x .from)) (a .0); condition = λ q. is-bit (x .condition) (rw (eq-eqb (x .origin) branchOrigin q) at (d .1)) },
+        sorts es (a .1) (c .1),
+      )
+
+  dispatch-sorts : (ds : List (Dispatch ℕ)) → dispatchesOut (l .list) n ds ≡ false → dynamicsOut (l .list) n dynamicCount (g .dynamics) ≡ false
+      → S.AllDispatched (bitsIn (h .state)) (kernelIn g) (flagOf g) (λ r. registerNode (h .state .roles) r .0) (dynamicFor (g .dynamics)) xs ds
+  unfolding dispatchesOut
+  dispatch-sorts [] o d = tt
+  dispatch-sorts (x ∷ ds) o d =
+      let a = neither (eqb (x .register) 0 || (ltb lastRegister (x .register) || wordOut (l .list) n (x .address))) _ o in
+      let b = neither (eqb (x .register) 0) _ (a .0) in
+      let c = neither (ltb lastRegister (x .register)) _ (b .1) in (
+        record {
+          register = its-node (x .register);
+          dynamic = is-bit (dynamicFor (g .dynamics) (x .register)) (dynamic-in (l .list) n (g .dynamics) d (x .register) (b .0) (ltb-false 31 (x .register) (c .0)));
+          address = is-word (x .address) (c .1);
+        },
+        dispatch-sorts ds (a .1) d,
+      )
+
+  pub record Flagged : Type 0 where
+    pub edges : edgesUnflagged (l .list) n (flagOf g) (edgesOf g) ≡ false
+    pub mode : bitOut (l .list) n (g .asked .mode .0) ≡ false
+    pub none : bitOut (l .list) n (g .asked .none .0) ≡ false
+    pub dynamics : dynamicsOut (l .list) n dynamicCount (g .dynamics) ≡ false
+    pub flow : bitOut (l .list) n (g .asked .flow .0) ≡ false
+
+  flagged : Flagged
+  unfolding flagsOut
+  flagged =
+      let f1 = neither (edgesUnflagged (l .list) n (flagOf g) (edgesOf g)) _ (its l h g e .flags) in
+      let f2 = neither (tableOut (l .list) n (g .asked .flags) (g .flags)) _ (f1 .1) in
+      let f3 = neither (bitOut (l .list) n (g .asked .mode .0)) _ (f2 .1) in
+      let f4 = neither (bitOut (l .list) n (g .asked .none .0)) _ (f3 .1) in
+      let f5 = neither (dynamicsOut (l .list) n dynamicCount (g .dynamics)) _ (f4 .1) in
+      record { edges = f1 .0; mode = f3 .0; none = f4 .0; dynamics = f5 .0; flow = f5 .1 }
+
+  ruled : S.Ruled xs (pushed xs (programOf (h .state) g))
+  unfolding programOf
+  ruled =
+      S.joined (bitsIn (h .state)) (kernelIn g) (flagOf g) (λ r. registerNode (h .state .roles) r .0) (dynamicFor (g .dynamics)) xs
+      (record { sorted = sorted; zero = its-bit 0 (omega arith); one = its-bit 1 (omega arith); mode = is-bit (g .asked .mode .0) (flagged .mode); none = is-bit (g .asked .none .0) (flagged .none) })
+      (h .state .counts .names) (edgesOf g) (dispatchesOf g) (sorts (edgesOf g) (flagged .edges) (its l h g e .edges)) (dispatch-sorts (dispatchesOf g) (its l h g e .dispatches) (flagged .dynamics)) (g .asked .flow .0) (is-bit (g .asked .flow .0) (flagged .flow))
+
+  -- the lines after it
+  as-pushed : (full : Run Listed ℕ) → ran (full .state .store) (full .value) ≡ exec append (at (l .list) (h .state .tally)) (programOf (h .state) g)
+      → ran (operators (full .state .store .words) (full .state .store .tally .lines)) (full .value) ≡ pushed xs (programOf (h .state) g)
+  as-pushed full forgot =
+      ap (λ (r : Run Store ℕ). ran (operators (r .state .words) (r .state .tally .lines)) (r .value)) forgot
+      ∙ laid-pushed (programOf (h .state) g) (lineCount (h .state) g) (l .list) (h .state .tally) _ (its-run l h g e)
+
+  module _ (env : Env) where
+    bit : (p : ℕ) → bitOut (l .list) n p ≡ false → Act.Bit env xs p
+    bit p o = record { place = inside B1 xs p (is-bit p o); bound = value-fits env xs sorted B1 p (is-bit p o) .bits tt }
+
+    sound : (es : List (Edge ℕ)) → edgesUnflagged (l .list) n (flagOf g) es ≡ false → edgesOut (l .list) n es ≡ false → Act.AllSound env (flagOf g) (kernelIn g) xs es
+    unfolding edgesUnflagged edgesOut
+    sound [] u o = tt
+    sound (x ∷ es) u o =
+        let a = neither (bitOut (l .list) n (flagOf g (x .from))) _ u in
+        let c = neither (ltb syscallOrigin (x .origin) || (eqb (x .origin) branchOrigin && bitOut (l .list) n (x .condition))) _ o in
+        let d = neither (ltb syscallOrigin (x .origin)) _ (c .0) in (
+          record { flag = bit (flagOf g (x .from)) (a .0); condition = λ q. bit (x .condition) (rw (eq-eqb (x .origin) branchOrigin q) at (d .1)) },
+          sound es (a .1) (c .1),
+        )
+
+    reached : (ds : List (Dispatch ℕ)) → dispatchesOut (l .list) n ds ≡ false → dynamicsOut (l .list) n dynamicCount (g .dynamics) ≡ false
+        → Act.AllReached env (λ r. registerNode (h .state .roles) r .0) (dynamicFor (g .dynamics)) xs ds
+    unfolding dispatchesOut
+    reached [] o d = tt
+    reached (x ∷ ds) o d =
+        let a = neither (eqb (x .register) 0 || (ltb lastRegister (x .register) || wordOut (l .list) n (x .address))) _ o in
+        let b = neither (eqb (x .register) 0) _ (a .0) in
+        let c = neither (ltb lastRegister (x .register)) _ (b .1) in (
+          record {
+            dynamic = bit (dynamicFor (g .dynamics) (x .register)) (dynamic-in (l .list) n (g .dynamics) d (x .register) (b .0) (ltb-false 31 (x .register) (c .0)));
+            register = inside W xs (registerNode (h .state .roles) (x .register) .0) (its-node (x .register));
+            address = inside W xs (x .address) (is-word (x .address) (c .1));
+          },
+          reached ds (a .1) d,
+        )
+
+  -- what its values rest on
+  module _ (env : Env) (z : ZeroAndOne env l h) where
+    bits : Act.Given env xs (bitsIn (h .state))
+    bits = record {
+      zero = inside B1 xs _ (its-bit 0 (omega arith));
+      one = inside B1 xs _ (its-bit 1 (omega arith));
+      isZero = λ p. refl;
+      zeroValue = z .zero;
+      oneValue = z .one;
+    }
+
+    all-sound : Act.AllSound env (flagOf g) (kernelIn g) xs (edgesOf g)
+    all-sound = sound env (edgesOf g) (flagged .edges) (its l h g e .edges)
+
+    starts : g .asked .flow .0 < length xs
+    starts = inside B1 xs (g .asked .flow .0) (is-bit (g .asked .flow .0) (flagged .flow))
+
+    module _ (full : Run Listed ℕ) (forgot : ran (full .state .store) (full .value) ≡ exec append (at (l .list) (h .state .tally)) (programOf (h .state) g)) where
+      means-in : Act.on env (operators (full .state .store .words) (full .state .store .tally .lines)) (full .value)
+          ≡ ((Act.anyActive env (flagOf g) (bitsIn (h .state)) (kernelIn g) xs (h .state .counts .names) (edgesOf g) (g .asked .flow .0)
+          || Act.anyDispatched env (λ r. registerNode (h .state .roles) r .0) (dynamicFor (g .dynamics)) xs (dispatchesOf g)) || Act.on env xs (g .asked .flow .0))
+      unfolding programOf
+      means-in =
+          ap (λ (r : Run (List (Op ℕ)) ℕ). Act.on env (r .state) (r .value)) (as-pushed full forgot)
+          ∙ join-means env xs (bitsIn (h .state)) (kernelIn g) (flagOf g) (λ r. registerNode (h .state .roles) r .0) (dynamicFor (g .dynamics)) (h .state .counts .names) (edgesOf g) (dispatchesOf g) (g .asked .flow .0)
+          bits (bit env (g .asked .none .0) (flagged .none)) all-sound (reached env (dispatchesOf g) (its l h g e .dispatches) (flagged .dynamics)) starts
+
+      plain-in : Act.NoSyscall (edgesOf g) → g .asked .dispatches ≡ 0
+          → Act.on env (operators (full .state .store .words) (full .state .store .tally .lines)) (full .value) ≡ (Act.anyPlain env (flagOf g) xs (edgesOf g) || Act.on env xs (g .asked .flow .0))
+      unfolding programOf dispatchesIn
+      plain-in o d =
+          ap (λ (r : Run (List (Op ℕ)) ℕ). Act.on env (r .state) (r .value)) (as-pushed full forgot)
+          ∙ rw d
+          (plain-means env xs (bitsIn (h .state)) (kernelIn g) (flagOf g) (λ r. registerNode (h .state .roles) r .0) (dynamicFor (g .dynamics)) (h .state .counts .names) (edgesOf g) (g .asked .flow .0)
+          bits (bit env (g .asked .none .0) (flagged .none)) all-sound o starts)
+
+  pub accepted : AcceptedJoin l h g (joining l h g)
+  unfolding joining settled
+  accepted = rw (eq-eqb (refusalOf l h g) 0 e) (record {
+    refusal = refl;
+    nodes = subst (λ (r : Run Store ℕ). view (r .state .words) (r .state .tally .lines) ≡ view (l .list) n ++ numbered (h .state .tally .nid) (linesOf (placeAfter n) 0 (programOf (h .state) g))) (sym forgot) ((its-run l h g e) .nodes);
+    lines = subst (λ (r : Run Store ℕ). r .state .tally .lines ≡ n + lineCount (h .state) g) (sym forgot) ((its-run l h g e) .lines);
+    nids = subst (λ (r : Run Store ℕ). r .state .tally .nid ≡ h .state .tally .nid + taking (linesOf (placeAfter n) 0 (programOf (h .state) g))) (sym forgot) ((its-run l h g e) .nids);
+    roles = refl;
+    list = subst (λ (r : Run Store ℕ). Elsewhere (n * stride) ((n + lineCount (h .state) g) * stride) (l .list) (r .state .words)) (sym forgot) (record { size = (its-run l h g e) .size; below = (its-run l h g e) .below; above = (its-run l h g e) .above });
+    names = record {
+      size = length-sets (l .names) (h .state .counts .names) (namesOf (edgesOf g));
+      below = λ j q. below (namesOf (edgesOf g)) (l .names) (h .state .counts .names) j q;
+      above = λ j q. above (namesOf (edgesOf g)) (l .names) (h .state .counts .names) j q;
+    };
+    sequentials = listed-else p (storeOf l h) .part;
+    stored = subst (λ (r : Run Store ℕ). r .state .tally .lines * stride ≤ length (r .state .words)) (sym forgot) (rw ((its-run l h g e) .lines, (its-run l h g e) .size) (omega (arith, room l h g e .lines)));
+    more = ruled .more;
+    extends = ap (λ (r : Run (List (Op ℕ)) ℕ). r .state) (as-pushed full forgot) ∙ ruled .extends;
+    sorted = subst (λ (r : Run (List (Op ℕ)) ℕ). T (meetsSortRule (r .state))) (sym (as-pushed full forgot)) (ruled .sorted);
+    means = λ env z. means-in env z full forgot;
+    plain = λ env z o d. plain-in env z full forgot o d;
+  })
+    where
+      p : Prog ℕ ℕ
+      p = programOf (h .state) g
+
+      full : Run Listed ℕ
+      full = exec appendListed (storeOf l h) p
+
+      forgot : ran (full .state .store) (full .value) ≡ exec append (at (l .list) (h .state .tally)) p
+      forgot = forgets p (storeOf l h)
+
+pub joins-mean : JoinsMean
+joins-mean l h g sorted given e = accepted l h g sorted given e
