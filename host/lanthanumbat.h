@@ -1,13 +1,14 @@
-// Lowering RV64 instructions to BTOR2 lines, for a host in C. `rt staticlib host` writes target/staticlib/libhost.a, which defines these
-// functions; it calls memcpy and nothing else. What each gives is proved equal to a definition: crates/lowering/specs (Words,
-// All) and crates/host/specs.
+// Lowering RV64 instructions to BTOR2 lines, and joining their edges into flags, for a host in C. `rt staticlib host` writes
+// target/staticlib/libhost.a, which defines these functions; it calls memcpy and memset and nothing else. What each gives is proved equal to
+// a definition: crates/lowering/specs (Words, All), crates/join/specs (Words) and crates/host/specs.
 //
 // All storage is the host's: a function takes a pointer and a length in elements, keeps neither, and allocates nothing. What is in use stands
-// first; the elements after it are spare room, and an accepted call writes there and to STATE only.
+// first; the elements after it are spare room, and an accepted call writes there, to STATE and to the single numbers that it sets only.
 //
 // WHAT A CALLER MUST SEE TO, for no function can: everything else is checked and refused by number.
 //   A pointer is not NULL, even where its length is 0, and is aligned for its type.
 //   It points to at least as many elements as the length says, all of them initialized, spare room too; they take less than 2^63 bytes.
+//   Where there is no length, it points to one number, and `dynamics` to LANTHANUMBAT_DYNAMICS of them.
 //   No area that a call writes overlaps another of the same call, and no other thread writes to or reads from it meanwhile.
 //
 // LIST: a line is 4 words, and its place is its index. Word by word:
@@ -20,10 +21,13 @@
 //     bytes 4 to 7 identifier
 //   1 first operand, as a place; the init of a state; the value of a const
 //   2 3 second and third operand, as places; of a state, an input and a bad, which have none, the name's first byte in its area and its length
-// NAMES: bytes of our area: the names of the bad lines that a lowering appends, at most 33 bytes each.
+// NAMES: bytes of our area: the names of the bad lines that a lowering appends, at most 33 bytes each, and of the states that a join appends,
+//   `kernel-mode-pc-flag-` and the address of a syscall in decimal, at most 40 bytes each.
 // EDGES: an edge is 4 words: address to, address from, origin (0 regular, 1 branch, 2 syscall), place of the condition or UINT64_MAX.
-// DISPATCHES: a dispatch is 2 words: register, address from.
+// DISPATCHES: a dispatch that a lowering gives is 2 words: register, address from. Those that a join is given are not these (see there).
 // BADS: a bad is 1 word: the place of a bad line.
+// FLAGS: a flag is 2 words: address, place of the line that is 1 where the instruction at that address is done.
+// SEQUENTIALS: a sequential is 1 word: the place of a next line.
 //
 // STATE: 85 words, which the host makes once for its start and hands from call to call:
 //   0 lines in use   1 next identifier   2 bytes of NAMES in use   3 edges   4 dispatches   5 bads in use
@@ -36,9 +40,11 @@
 // REFUSALS: a function gives 0, or the number of the first refusal that applies, and then changes nothing:
 //   1 kind not among the 50   2 a register field that the kind uses is above 31, or imm is outside its format   3 shift amount
 //   4 Srliw by 0   5 rd is x0   6 Jalr with an offset under a register   7 no flag of sort bit where one is needed
-//   8 no room for what the instruction appends, or more than 1,048,576 lines   9 a count or an identifier too large, a run outside the
-//   list, fewer than 85 words of state
+//   8 no room for what the instruction or the join appends, or more than 1,048,576 lines   9 a count or an identifier too large, a run
+//   outside the list, fewer than 85 words of state
 //   10 identifiers at the start   11 a line that is not well formed   12 the sort rule   13 a role   14 the output is too short
+//   15 an edge whose source has no flag, or a flag, kernel node, dynamic flag or starting flow that is no line with a value of sort bit
+//   16 an unknown origin, a branch without a condition of sort bit, a dispatch of x0 or of no register or whose address node is no word
 #ifndef LANTHANUMBAT_H
 #define LANTHANUMBAT_H
 
@@ -49,7 +55,16 @@
 extern "C" {
 #endif
 
-enum { LANTHANUMBAT_LINE = 4, LANTHANUMBAT_EDGE = 4, LANTHANUMBAT_DISPATCH = 2, LANTHANUMBAT_STATE = 85, LANTHANUMBAT_CALL = 7, LANTHANUMBAT_MOST_LINES = 1048576 };
+enum {
+    LANTHANUMBAT_LINE = 4,
+    LANTHANUMBAT_EDGE = 4,
+    LANTHANUMBAT_DISPATCH = 2,
+    LANTHANUMBAT_FLAG = 2,
+    LANTHANUMBAT_DYNAMICS = 31,
+    LANTHANUMBAT_STATE = 85,
+    LANTHANUMBAT_CALL = 7,
+    LANTHANUMBAT_MOST_LINES = 1048576
+};
 
 // A flag that is absent: the largest place, which no list reaches.
 #define LANTHANUMBAT_NO_FLAG ((size_t)-1)
@@ -85,6 +100,30 @@ uint64_t lanthanumbat_lower(uint64_t *list, size_t list_words, uint8_t *names, s
 size_t lanthanumbat_lower_all(uint64_t *list, size_t list_words, uint8_t *names, size_t names_bytes, uint64_t *edges, size_t edges_words,
                               uint64_t *dispatches, size_t dispatches_words, uint64_t *bads, size_t bads_words, uint64_t *state,
                               size_t state_words, const uint64_t *calls, size_t calls_words, uint64_t *refusal);
+
+// Joins one address's edges, then its dispatches, each in the order given, into a flow. Refusals 9, 13, 15, 16, 8, each over the whole call before
+// the next; a refused call changes nothing. Where the bits 0 and 1 have these values, the new flow is 1 exactly where the starting flow is or
+// one of the edges and dispatches is active: an edge where the flag of its source is 1, and for a branch its condition too; a syscall edge where
+// the state that it appends and `none` are 1; a dispatch where the dynamic flag of its register is 1 and the register equals the address node.
+// An edge appends at most 5 lines, a dispatch at most 3; a syscall edge also takes a sequential and at most 40 bytes of NAMES. A flow that is at
+// the bit 0's own place is replaced without an ite; without edges and dispatches nothing is appended. No role changes, and how many edges,
+// dispatches and bads are in use by STATE does not matter.
+// The cost is linear in the edges times the flags: give the flags that the edges need, not all there are.
+//   sequentials     get the place of the next line of each syscall edge
+//   edges           as a lowering gives them, those that lead to the address; `address to` is not read, and a condition only of a branch
+//   dispatches      2 words each: register, PLACE of the address node, a line of sort word with the address that is joined. A lowering gives
+//                   the address from as the second word: that is no place, and its dispatches must not be handed on as they are
+//   flags           the first for an address counts, but all must be lines with a value of sort bit
+//   dynamics        31 places without a length: the dynamic flags of x1 to x31, which are 1 where a jump to that register's value is done
+//   count, dispatched, flagged    how many edges, dispatches and flags are given
+//   mode, none      the places of the node that is 1 in kernel mode, and of the one that is 1 outside it
+//   used            how many sequentials are in use, and is set to how many are then
+//   flow            the place of the starting flow, and is set to that of the new one
+uint64_t lanthanumbat_join(uint64_t *list, size_t list_words, uint8_t *names, size_t names_bytes, uint64_t *sequentials,
+                           size_t sequentials_words, uint64_t *state, size_t state_words, const uint64_t *edges, size_t edges_words,
+                           const uint64_t *dispatches, size_t dispatches_words, const uint64_t *flags, size_t flags_words,
+                           const uint64_t *dynamics, size_t count, size_t dispatched, size_t flagged, size_t mode, size_t none,
+                           size_t *used, size_t *flow);
 
 // Prints a run of lines as BTOR2 at the output's start. Refusals 9, 11 (both over the whole list), 14.
 //   lines           how many lines the list has

@@ -1,5 +1,5 @@
-//! Lowering RV64 instructions to BTOR2 lines: safe calls of libhost.a. The layout of lines, edges, dispatches, bads and the state's words
-//! stands in host/lanthanumbat.h.
+//! Lowering RV64 instructions to BTOR2 lines and joining their edges into flags: safe calls of libhost.a. The layout of lines, edges,
+//! dispatches, bads, flags and the state's words stands in host/lanthanumbat.h.
 
 mod ffi {
     extern "C" {
@@ -15,6 +15,13 @@ mod ffi {
             dispatches: *mut u64, dispatches_words: usize, bads: *mut u64, bads_words: usize, state: *mut u64, state_words: usize,
             calls: *const u64, calls_words: usize, refusal: *mut u64,
         ) -> usize;
+        #[rustfmt::skip]
+        pub fn lanthanumbat_join(
+            list: *mut u64, list_words: usize, names: *mut u8, names_bytes: usize, sequentials: *mut u64, sequentials_words: usize,
+            state: *mut u64, state_words: usize, edges: *const u64, edges_words: usize, dispatches: *const u64, dispatches_words: usize,
+            flags: *const u64, flags_words: usize, dynamics: *const u64, count: usize, dispatched: usize, flagged: usize,
+            mode: usize, none: usize, used: *mut usize, flow: *mut usize,
+        ) -> u64;
         #[rustfmt::skip]
         pub fn lanthanumbat_print(
             list: *const u64, list_words: usize, lines: usize, host: *const u8, host_bytes: usize, ours: *const u8, ours_bytes: usize,
@@ -53,14 +60,18 @@ pub const NO_FLAG: usize = usize::MAX;
 /// The most lines that a list holds.
 pub const MOST_LINES: usize = 1_048_576;
 
-/// The words of a line, an edge, a dispatch, the state and a call.
+/// The words of a line, an edge, a dispatch, a flag, the state and a call.
 pub const LINE: usize = 4;
 pub const EDGE: usize = 4;
 pub const DISPATCH: usize = 2;
+pub const FLAG: usize = 2;
 pub const STATE: usize = 85;
 pub const CALL: usize = 7;
 
-/// The number of a refusal, 1 to 14.
+/// How many dynamic flags there are: those of x1 to x31.
+pub const DYNAMICS: usize = 31;
+
+/// The number of a refusal, 1 to 16.
 #[derive(Clone, Copy, Debug, PartialEq, Eq)]
 pub struct Refusal(pub u64);
 
@@ -98,6 +109,30 @@ pub struct Lent<'a> {
     pub state: &'a mut [u64; STATE],
 }
 
+/// What a join is given: one address's edges and dispatches, in their order, and the places of the nodes that they go by.
+#[derive(Clone, Copy, Debug)]
+pub struct Join<'a> {
+    /// As a lowering gives them; where an edge leads to is not read.
+    pub edges: &'a [[u64; EDGE]],
+    /// A register and the place of the address node each. A lowering's dispatches have the address from in its stead, and cannot be handed on.
+    pub dispatches: &'a [[u64; DISPATCH]],
+    /// An address and the place of its flag each; the first for an address counts. The cost is linear in the edges times these.
+    pub flags: &'a [[u64; FLAG]],
+    /// The dynamic flags of x1 to x31.
+    pub dynamics: &'a [u64; DYNAMICS],
+    /// The nodes that are 1 in kernel mode, and outside it.
+    pub mode: usize,
+    pub none: usize,
+    /// The starting flow.
+    pub flow: usize,
+}
+
+/// The places of the next lines that joins append: what the host lends for them, and how many are in use.
+pub struct Sequentials<'a> {
+    pub places: &'a mut [u64],
+    pub used: usize,
+}
+
 impl Lent<'_> {
     /// How many lines are in use.
     pub fn lines(&self) -> usize {
@@ -133,6 +168,23 @@ impl Lent<'_> {
             )
         };
         (done, refused(number))
+    }
+
+    /// Joins edges, then dispatches, into the starting flow. Gives the place of the new flow.
+    pub fn join(&mut self, sequentials: &mut Sequentials, j: Join) -> Result<usize, Refusal> {
+        let (edges, dispatches, flags) = (j.edges.as_flattened(), j.dispatches.as_flattened(), j.flags.as_flattened());
+        let mut flow = j.flow;
+        #[rustfmt::skip]
+        let number = unsafe {
+            ffi::lanthanumbat_join(
+                self.list.as_mut_ptr(), self.list.len(), self.names.as_mut_ptr(), self.names.len(),
+                sequentials.places.as_mut_ptr(), sequentials.places.len(), self.state.as_mut_ptr(), self.state.len(),
+                edges.as_ptr(), edges.len(), dispatches.as_ptr(), dispatches.len(), flags.as_ptr(), flags.len(), j.dynamics.as_ptr(),
+                j.edges.len(), j.dispatches.len(), j.flags.len(), j.mode, j.none, &mut sequentials.used, &mut flow,
+            )
+        };
+        refused(number)?;
+        Ok(flow)
     }
 
     /// Checks a start, with the host's area of names.

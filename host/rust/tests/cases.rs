@@ -2,19 +2,13 @@
 mod common;
 
 use common::*;
-use lanthanumbat::{head, Lent, Refusal, CALL, DISPATCH, EDGE, LINE};
-use std::{fmt::Write, fs, path::Path};
+use lanthanumbat::{Lent, Refusal, CALL, DISPATCH, EDGE, LINE};
+use std::fmt::Write;
 
 const DISPATCHES_USED: usize = 4;
 const BADS_USED: usize = 5;
-const FIRST_ROLE: usize = 6;
 const FIRST_FLOW: usize = FIRST_ROLE + 39;
-const NAMED: [u64; 3] = [STATE_LINE, 21, BAD];
-const BAD: u64 = 22;
-
-fn stored(name: &str) -> String {
-    fs::read_to_string(Path::new(env!("CARGO_MANIFEST_DIR")).join("../../crates/lowering_cases").join(name)).unwrap()
-}
+const CASES: &str = "lowering_cases";
 
 // What that program lends.
 fn storage() -> Storage {
@@ -22,15 +16,6 @@ fn storage() -> Storage {
     s.names = vec![0; 1024];
     s.bads = vec![0; 32];
     s
-}
-
-fn put(s: &mut Storage, numbers: &[u64]) {
-    let [place, nid, kind, sort, op1, op2, op3, imm, area, at, len] = *numbers else { panic!() };
-    let init = if kind == STATE_LINE { imm } else { 0 };
-    let first = if kind == CONST { imm } else { op1 };
-    let others = if NAMED.contains(&kind) { [at, len] } else { [op2, op3] };
-    let from = place as usize * LINE;
-    s.list[from..from + LINE].copy_from_slice(&[head(nid, kind, sort, area, init), first, others[0], others[1]]);
 }
 
 // What a call appended, in that program's words.
@@ -63,7 +48,7 @@ fn shown(s: &Storage, before: &Storage) -> String {
 #[test]
 fn one_by_one() {
     let (mut s, mut out, mut calls) = (storage(), String::new(), 0);
-    for command in stored("stdin").lines() {
+    for command in stored(CASES, "stdin").lines() {
         let numbers: Vec<u64> = command.split(' ').map(|number| number.parse().unwrap()).collect();
         match numbers[0] {
             1 => {
@@ -83,11 +68,11 @@ fn one_by_one() {
             2 => s.restart(),
             3 => s.state[..FIRST_ROLE].copy_from_slice(&numbers[1..]),
             4 => s.state[FIRST_ROLE + numbers[1] as usize] = numbers[2],
-            5 => put(&mut s, &numbers[1..]),
+            5 => put(&mut s.list, &numbers[1..]),
             other => panic!("{other}"),
         }
     }
-    let wanted = stored("stdout");
+    let wanted = stored(CASES, "stdout");
     for (n, (got, wanted)) in out.lines().zip(wanted.lines()).enumerate() {
         assert_eq!(got, wanted, "line {}", n + 1);
     }
@@ -100,7 +85,7 @@ fn one_by_one() {
 fn many_in_one() {
     let (mut one, mut calls, mut runs): (Storage, Vec<[u64; CALL]>, usize) = (roomy(), vec![], 0);
     let mut first = one.clone();
-    for command in stored("stdin").lines().chain(["2"]) {
+    for command in stored(CASES, "stdin").lines().chain(["2"]) {
         let numbers: Vec<u64> = command.split(' ').map(|number| number.parse().unwrap()).collect();
         if numbers[0] == 1 {
             let call: [u64; CALL] = numbers[1..].try_into().unwrap();
@@ -119,7 +104,7 @@ fn many_in_one() {
             2 => one.restart(),
             3 => one.state[..FIRST_ROLE].copy_from_slice(&numbers[1..]),
             4 => one.state[FIRST_ROLE + numbers[1] as usize] = numbers[2],
-            _ => put(&mut one, &numbers[1..]),
+            _ => put(&mut one.list, &numbers[1..]),
         }
         first = one.clone();
         calls.clear();

@@ -2,16 +2,10 @@
 mod common;
 
 use common::*;
-use lanthanumbat::{Instruction, Lent, Refusal, EDGE, NO_FLAG};
+use lanthanumbat::{Instruction, Refusal, EDGE, NO_FLAG};
 
 fn lui() -> Instruction {
     instruction(LUI, 5, 0, 0, 1)
-}
-
-fn text(l: &Lent, from: usize) -> String {
-    let mut out = [0; 1024];
-    let n = l.print(b"", from, l.lines() - from, &mut out).unwrap();
-    String::from_utf8(out[..n].to_vec()).unwrap()
 }
 
 #[test]

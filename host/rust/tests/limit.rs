@@ -3,7 +3,7 @@
 mod common;
 
 use common::*;
-use lanthanumbat::{head, Refusal, LINE, MOST_LINES, NO_FLAG};
+use lanthanumbat::{head, Join, Lent, Refusal, Sequentials, DYNAMICS, LINE, MOST_LINES, NO_FLAG};
 
 const ADDW_LINES: usize = 18;
 
@@ -88,4 +88,50 @@ fn states_with_an_init_up_to_the_limit() {
     assert_eq!(l.lower(instruction(JAL, 0, 0, 0, 8), 4, NO_FLAG), Ok(()));
     l.state[NEXT_NID] += 1;
     assert_eq!(l.lower(instruction(JAL, 0, 0, 0, 8), 8, NO_FLAG), Err(Refusal(9)));
+}
+
+// A syscall edge appends five lines before a flow, a regular one a line; in the zero bit's place a regular one appends none.
+#[test]
+fn joins_up_to_the_limit_and_past_it() {
+    let mut s = start(MOST_LINES + 100, 8);
+    s.names = vec![0; 100];
+    for place in START..MOST_LINES + 1 {
+        s.list[place * LINE..(place + 1) * LINE].copy_from_slice(&[head(FIRST + place as u64, CONST, BIT, 0, 0), 0, 0, 0]);
+    }
+    let mut l = lent(&mut s);
+    let mut sequentials = Sequentials { places: &mut [0; 9], used: 0 };
+    let nothing = Join { edges: &[], dispatches: &[], flags: &[[0, FLAG as u64]], dynamics: &DYNAMIC, mode: FLAG, none: FLAG, flow: FLAG };
+    let syscall = Join { edges: &[[0, 0, SYSCALL, u64::MAX]], ..nothing };
+    let regular = Join { edges: &[[0, 0, REGULAR, u64::MAX]], ..nothing };
+
+    use_lines(&mut l, MOST_LINES - 4);
+    let (list, state) = (l.list.to_vec(), *l.state);
+    assert_eq!(l.join(&mut sequentials, syscall), Err(Refusal(8)));
+    assert!(*l.list == list && *l.state == state && sequentials.used == 0);
+
+    use_lines(&mut l, MOST_LINES - 5);
+    assert_eq!(l.join(&mut sequentials, syscall), Ok(MOST_LINES - 1));
+    assert_eq!((l.lines(), l.state[NEXT_NID]), (MOST_LINES, FIRST + MOST_LINES as u64 + 1));
+    assert_eq!((sequentials.used, sequentials.places[0]), (1, MOST_LINES as u64 - 3));
+    assert_eq!(l.check_start(b""), Ok(()));
+    assert!(text(&l, MOST_LINES - 5).starts_with("1048591 state 1 kernel-mode-pc-flag-0\n1048592 init 1 1048591 20\n"));
+    assert!(text(&l, MOST_LINES - 5).ends_with("\n1048596 ite 1 1048595 21 58\n"));
+
+    assert_eq!(l.join(&mut sequentials, syscall), Err(Refusal(8)));
+    assert_eq!(l.join(&mut sequentials, regular), Err(Refusal(8)));
+    assert_eq!(l.join(&mut sequentials, Join { flow: 0, ..regular }), Ok(FLAG));
+    assert_eq!(l.join(&mut sequentials, nothing), Ok(FLAG));
+    assert_eq!(l.lines(), MOST_LINES);
+
+    use_lines(&mut l, MOST_LINES + 1);
+    assert_eq!(l.join(&mut sequentials, nothing), Err(Refusal(9)));
+}
+
+// The dynamic flags: all are FLAG.
+const DYNAMIC: [u64; DYNAMICS] = [FLAG as u64; DYNAMICS];
+
+// Says that so many lines are in use, each with one identifier.
+fn use_lines(l: &mut Lent, lines: usize) {
+    l.state[LINES_USED] = lines as u64;
+    l.state[NEXT_NID] = FIRST + lines as u64;
 }

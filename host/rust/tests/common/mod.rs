@@ -1,6 +1,7 @@
 // What a host lends, with the listing program's start in it.
 #![allow(dead_code)]
 use lanthanumbat::{head, Instruction, Lent, DISPATCH, EDGE, LINE, STATE};
+use std::{fs, path::Path};
 
 pub const FLAG: usize = 38;
 pub const START: usize = 39;
@@ -19,12 +20,21 @@ pub const ECALL: u64 = 49;
 // Kinds and sorts of a line, and the words of the state that are not roles.
 pub const CONST: u64 = 1;
 pub const STATE_LINE: u64 = 19;
+pub const INPUT: u64 = 21;
+pub const BAD: u64 = 22;
 pub const BIT: u64 = 1;
 pub const WORD: u64 = 2;
 pub const MEMORY: u64 = 3;
 pub const LINES_USED: usize = 0;
 pub const NEXT_NID: usize = 1;
+pub const NAMES_USED: usize = 2;
 pub const EDGES_USED: usize = 3;
+pub const FIRST_ROLE: usize = 6;
+
+// Origins of an edge.
+pub const REGULAR: u64 = 0;
+pub const BRANCH: u64 = 1;
+pub const SYSCALL: u64 = 2;
 
 #[derive(Clone, PartialEq)]
 pub struct Storage {
@@ -78,6 +88,28 @@ pub fn lent(s: &mut Storage) -> Lent<'_> {
     }
 }
 
+// The lines from a place on.
+pub fn text(l: &Lent, from: usize) -> String {
+    let mut out = [0; 1024];
+    let n = l.print(b"", from, l.lines() - from, &mut out).unwrap();
+    String::from_utf8(out[..n].to_vec()).unwrap()
+}
+
 pub fn instruction(kind: u64, rd: u64, rs1: u64, rs2: u64, imm: i64) -> Instruction {
     Instruction { kind, rd, rs1, rs2, imm }
+}
+
+// What a crate of cases has stored.
+pub fn stored(cases: &str, name: &str) -> String {
+    fs::read_to_string(Path::new(env!("CARGO_MANIFEST_DIR")).join("../../crates").join(cases).join(name)).unwrap()
+}
+
+// Puts the line of a record's eleven numbers there, its place first.
+pub fn put(list: &mut [u64], numbers: &[u64]) {
+    let [place, nid, kind, sort, op1, op2, op3, imm, area, at, len] = *numbers else { panic!() };
+    let init = if kind == STATE_LINE { imm } else { 0 };
+    let first = if kind == CONST { imm } else { op1 };
+    let others = if [STATE_LINE, INPUT, BAD].contains(&kind) { [at, len] } else { [op2, op3] };
+    let from = place as usize * LINE;
+    list[from..from + LINE].copy_from_slice(&[head(nid, kind, sort, area, init), first, others[0], others[1]]);
 }

@@ -1,0 +1,166 @@
+// The calls of crates/join_cases, whose stored answers are the unchanged Rust's, through the library. Its src/main.rt says what each command and
+// each line of the answers is.
+mod common;
+
+use common::*;
+use lanthanumbat::{Join, Lent, Refusal, Sequentials, DYNAMICS, LINE, STATE};
+use std::fmt::Write;
+
+// The words and bytes that the program has, and what each of them is before.
+const LIST: usize = 3200;
+const NAMES: usize = 2048;
+const SEQUENTIALS: usize = 64;
+const BEFORE: u8 = 46;
+const CASES: &str = "join_cases";
+
+// What is given of one kind: how many records the call says, and the words that are lent of them.
+#[derive(Clone, Default)]
+struct Given {
+    count: usize,
+    words: Vec<u64>,
+}
+
+impl Given {
+    fn new(numbers: &[u64]) -> Given {
+        assert_eq!(numbers[1] as usize, numbers.len() - 2);
+        Given { count: numbers[0] as usize, words: numbers[2..].to_vec() }
+    }
+
+    // The records that the call says there are, None where the words hold fewer: no slice of records is like that.
+    fn records<const N: usize>(&self) -> Option<Vec<[u64; N]>> {
+        let all: Vec<[u64; N]> = self.words.chunks_exact(N).map(|record| record.try_into().unwrap()).collect();
+        all.get(..self.count).map(<[_]>::to_vec)
+    }
+
+    // The dynamic flags; one that is not given is no place.
+    fn dynamics(&self) -> [u64; DYNAMICS] {
+        std::array::from_fn(|n| self.words.get(n).copied().unwrap_or(u64::MAX))
+    }
+}
+
+// What the program holds between commands.
+struct Desk {
+    list: Vec<u64>,
+    names: Vec<u8>,
+    places: Vec<u64>,
+    state: [u64; STATE],
+    edges: Given,
+    dispatches: Given,
+    flags: Given,
+    dynamics: Given,
+    kernel: [usize; 2],
+    lent: [usize; 3],
+    used: usize,
+}
+
+impl Desk {
+    fn new() -> Desk {
+        Desk {
+            list: vec![BEFORE as u64; LIST],
+            names: vec![BEFORE; NAMES],
+            places: vec![BEFORE as u64; SEQUENTIALS],
+            state: [0; STATE],
+            edges: Given::default(),
+            dispatches: Given::default(),
+            flags: Given::default(),
+            dynamics: Given::default(),
+            kernel: [0; 2],
+            lent: [0; 3],
+            used: 0,
+        }
+    }
+
+    fn set(&mut self, command: u64, numbers: &[u64]) {
+        match command {
+            2 => put(&mut self.list, numbers),
+            3 => self.state[..FIRST_ROLE].copy_from_slice(numbers),
+            4 => self.state[FIRST_ROLE + numbers[0] as usize] = numbers[1],
+            5 => self.edges = Given::new(numbers),
+            6 => self.dispatches = Given::new(numbers),
+            7 => self.flags = Given::new(numbers),
+            8 => self.dynamics = Given::new(numbers),
+            9 => self.kernel = [numbers[0] as usize, numbers[1] as usize],
+            10 => {
+                self.lent = [numbers[0] as usize, numbers[1] as usize, numbers[2] as usize];
+                self.used = numbers[3] as usize;
+            }
+            other => panic!("{other}"),
+        }
+    }
+
+    // None where more edges, dispatches or flags are said to be given than there are.
+    fn join(&mut self, flow: usize) -> Option<Result<usize, Refusal>> {
+        let (edges, dispatches, flags) = (self.edges.records()?, self.dispatches.records()?, self.flags.records()?);
+        let [mode, none] = self.kernel;
+        let dynamics = self.dynamics.dynamics();
+        let j = Join { edges: &edges, dispatches: &dispatches, flags: &flags, dynamics: &dynamics, mode, none, flow };
+        let [words, bytes, places] = self.lent;
+        let mut sequentials = Sequentials { places: &mut self.places[..places], used: self.used };
+        let (list, names, state) = (&mut self.list[..words], &mut self.names[..bytes], &mut self.state);
+        let answer = Lent { list, names, edges: &mut [], dispatches: &mut [], bads: &mut [], state }.join(&mut sequentials, j);
+        self.used = sequentials.used;
+        Some(answer)
+    }
+
+    // The lines, names and sequentials from these counts on, and the flow.
+    fn appended(&self, lines: usize, used: usize, flow: usize) -> String {
+        let mut out = String::new();
+        for line in self.list[lines * LINE..self.state[LINES_USED] as usize * LINE].chunks(LINE) {
+            let (kind, sort, area, init) = (line[0] & 255, line[0] >> 8 & 255, line[0] >> 16 & 255, line[0] >> 24 & 255);
+            let [_, a, b, c] = *line else { panic!() };
+            let imm = if kind == STATE_LINE { init } else { a };
+            writeln!(out, "{} {kind} {sort} {a} {b} {c} {imm} {area} {b} {c}", line[0] >> 32).unwrap();
+            if kind == STATE_LINE {
+                writeln!(out, "{}", std::str::from_utf8(&self.names[b as usize..(b + c) as usize]).unwrap()).unwrap();
+            }
+        }
+        writeln!(out, "sequentials{}\nflow {flow}", spaced(&self.places[used..self.used])).unwrap();
+        out
+    }
+
+    // What is in use, and a number each for all words and bytes that there are, lent or not.
+    fn left(&self) -> String {
+        let names: Vec<u64> = self.names.iter().map(|byte| u64::from(*byte)).collect();
+        let digests = [&self.list[..], &names, &self.places, &self.state[FIRST_ROLE..]].map(digest);
+        format!("counts{} {}\nleft{}\n", spaced(&self.state[..FIRST_ROLE]), self.used, spaced(&digests))
+    }
+}
+
+fn spaced(numbers: &[u64]) -> String {
+    numbers.iter().map(|number| format!(" {number}")).collect()
+}
+
+fn digest(numbers: &[u64]) -> u64 {
+    numbers.iter().fold(0, |all: u64, number| all.wrapping_mul(5).wrapping_add(*number))
+}
+
+#[test]
+fn stored_joins() {
+    let (mut desk, mut out) = (Desk::new(), String::new());
+    let (mut calls, mut unsaid) = (0, 0);
+    for command in stored(CASES, "stdin").lines() {
+        let numbers: Vec<u64> = command.split(' ').map(|number| number.parse().unwrap()).collect();
+        if numbers[0] != 1 {
+            desk.set(numbers[0], &numbers[1..]);
+            continue;
+        }
+        let (lines, used) = (desk.state[LINES_USED] as usize, desk.used);
+        match desk.join(numbers[1] as usize) {
+            Some(Ok(flow)) => write!(out, "refusal 0\n{}", desk.appended(lines, used, flow)).unwrap(),
+            Some(Err(Refusal(number))) => writeln!(out, "refusal {number}").unwrap(),
+            None => {
+                writeln!(out, "refusal 9").unwrap();
+                unsaid += 1;
+            }
+        }
+        out += &desk.left();
+        calls += 1;
+    }
+    let wanted = stored(CASES, "stdout");
+    for (n, (got, wanted)) in out.lines().zip(wanted.lines()).enumerate() {
+        assert_eq!(got, wanted, "line {}", n + 1);
+    }
+    assert_eq!(out.len(), wanted.len());
+    println!("{calls} joins, {unsaid} of them with a count that no slice has");
+    assert!(calls > 500 && unsaid < 20, "{calls} {unsaid}");
+}
