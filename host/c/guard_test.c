@@ -1,108 +1,16 @@
 /* Random and broken storage through the library. Every area ends where memory that must not be touched begins, so that an access past its end
-   ends the program. A refused call must change nothing, an accepted one only what stands after the counts, and many calls in one must do what
-   they do one by one. guard_test [ROUNDS [SEED]]; ends with status 1 where something fails. */
-#include "../lanthanumbat.h"
+   ends the program, and has bytes before it that must stay as they are. A refused call must change nothing, an accepted one only what stands
+   after the counts, and many calls in one must do what they do one by one. guard_test [ROUNDS [SEED]]; ends with status 1 where something
+   fails. */
+#include "guard.h"
 
 #include <stdio.h>
 #include <stdlib.h>
 #include <string.h>
-#include <sys/mman.h>
-#include <unistd.h>
 
-enum { LIST, NAMES, EDGES, DISPATCHES, BADS, STATE, HOST, OUT, CALLS, AREAS };
-enum { LINES_USED, NEXT_NID, NAMES_USED, EDGES_USED, DISPATCHES_USED, BADS_USED, ROLES };
-enum { LINES = 120, MOST_BYTES = 8192, KINDS = 50, SEVERAL = 6 };
+enum { KINDS = 50, SEVERAL = 6 };
 
-/* An area: its elements' size, how many are lent, and where they stand, with a copy of them and what they were before. */
-struct area {
-    size_t size, length;
-    unsigned char *end, *at, before[MOST_BYTES], after[MOST_BYTES];
-};
-
-static struct area areas[AREAS];
-static const size_t element[AREAS] = {8, 1, 8, 8, 8, 8, 1, 1, 8};
-static uint64_t drawn = 88172645463325252u;
-static unsigned long counts[2][15];
-static int failed;
-
-static void fail(const char *what) {
-    printf("guard_test: %s\n", what);
-    failed = 1;
-}
-
-static uint64_t draw(void) {
-    drawn ^= drawn << 13;
-    drawn ^= drawn >> 7;
-    return drawn ^= drawn << 17;
-}
-
-static uint64_t below(uint64_t n) {
-    return draw() % n;
-}
-
-/* Numbers around what is tested: small ones, places, limits. */
-static uint64_t number(void) {
-    static const uint64_t edges[] = {0, 1, 2, 3, 17, 18, 31, 32, 38, 39, 255, 256, 1048576, 1048577, 2147483648u, 2147483649u, 2149580800u, 2149580801u, 4294967295u};
-    switch (below(6)) {
-    case 0: return below(LINES + 10);
-    case 1: return edges[below(sizeof edges / sizeof *edges)];
-    case 2: return UINT64_MAX - below(3);
-    case 3: return UINT64_C(1) << below(64);
-    case 4: return draw();
-    default: return below(40);
-    }
-}
-
-/* Each area has pages of its own, and the page after them is closed. */
-static void map(void) {
-    size_t page = (size_t)sysconf(_SC_PAGESIZE), bytes = (MOST_BYTES + page - 1) / page * page;
-    int n;
-    for (n = 0; n < AREAS; n++) {
-        unsigned char *at = (unsigned char *)mmap(NULL, bytes + page, PROT_READ | PROT_WRITE, MAP_PRIVATE | MAP_ANONYMOUS, -1, 0);
-        if (at == MAP_FAILED || mprotect(at + bytes, page, PROT_NONE) != 0) {
-            perror("guard_test");
-            exit(2);
-        }
-        areas[n].size = element[n];
-        areas[n].end = at + bytes;
-    }
-}
-
-static void lend(int n, size_t length) {
-    areas[n].length = length;
-    areas[n].at = areas[n].end - length * areas[n].size;
-    memset(areas[n].at, 0, length * areas[n].size);
-}
-
-static uint64_t *words(int n) {
-    return (uint64_t *)(void *)areas[n].at;
-}
-
-static void put(size_t place, uint64_t first, uint64_t a, uint64_t b, uint64_t c) {
-    uint64_t line[LANTHANUMBAT_LINE] = {first, a, b, c};
-    if ((place + 1) * LANTHANUMBAT_LINE <= areas[LIST].length)
-        memcpy(words(LIST) + place * LANTHANUMBAT_LINE, line, sizeof line);
-}
-
-/* The listing's start, as far as there is room. */
-static void start(void) {
-    static const uint64_t sorts[] = {3, 3, 2, 1};
-    uint64_t state[LANTHANUMBAT_STATE] = {39, 59};
-    size_t n;
-    for (n = 0; n < 4; n++)
-        put(n, LANTHANUMBAT_HEAD(20 + n, 1, 1 + n / 2, 0, 0), n % 2, 0, 0);
-    for (n = 4; n < 39; n++)
-        put(n, LANTHANUMBAT_HEAD(20 + n, 19, n < 35 ? 2 : sorts[n - 35], 0, 0), 0, 0, 0);
-    for (n = 0; n < 4; n++)
-        state[ROLES + n] = n;
-    for (n = 4; n < 7; n++)
-        state[ROLES + n] = state[ROLES + 66 + n] = 31 + n;
-    state[ROLES + 7] = state[ROLES + 75] = 2;
-    for (n = 1; n < 32; n++)
-        state[ROLES + 7 + n] = state[ROLES + 38 + n] = 3 + n;
-    state[ROLES + 73] = state[ROLES + 74] = 3;
-    memcpy(areas[STATE].at, state, (areas[STATE].length < LANTHANUMBAT_STATE ? areas[STATE].length : LANTHANUMBAT_STATE) * 8);
-}
+static unsigned long lowerings[NUMBERS], others[NUMBERS];
 
 static void call(uint64_t *at) {
     at[0] = number();
@@ -129,8 +37,7 @@ static void prepare(void) {
     lend(CALLS, below(SEVERAL * LANTHANUMBAT_CALL + 1));
     for (n = 0; n < AREAS; n++)
         if (n != LIST && n != STATE)
-            for (k = 0; k < areas[n].length * areas[n].size; k++)
-                areas[n].at[k] = (unsigned char)draw();
+            fill(n);
     if (below(10))
         start();
     else
@@ -142,31 +49,6 @@ static void prepare(void) {
         words(LIST)[below(areas[LIST].length)] = below(2) ? number() : draw();
     for (k = 0; k + LANTHANUMBAT_CALL <= areas[CALLS].length; k += LANTHANUMBAT_CALL)
         call(words(CALLS) + k);
-}
-
-static void keep(int after) {
-    int n;
-    for (n = 0; n < AREAS; n++)
-        memcpy(after ? areas[n].after : areas[n].before, areas[n].at, areas[n].length * areas[n].size);
-}
-
-static void restore(void) {
-    int n;
-    for (n = 0; n < AREAS; n++)
-        memcpy(areas[n].at, areas[n].before, areas[n].length * areas[n].size);
-}
-
-static int same(int n, size_t from, size_t to) {
-    struct area *a = &areas[n];
-    to = to < a->length ? to : a->length;
-    return from >= to || memcmp(a->at + from * a->size, a->before + from * a->size, (to - from) * a->size) == 0;
-}
-
-static int all_same(void) {
-    int n, yes = 1;
-    for (n = 0; n < AREAS; n++)
-        yes &= same(n, 0, areas[n].length);
-    return yes;
 }
 
 /* An accepted call writes a list or area only from its count before up to its count after. */
@@ -184,8 +66,11 @@ static void only_after_the_counts(void) {
     }
     if (words(STATE)[LINES_USED] - was[LINES_USED] > 35 || words(STATE)[NEXT_NID] - was[NEXT_NID] != words(STATE)[LINES_USED] - was[LINES_USED])
         fail("lines and identifiers");
-    if (!same(STATE, ROLES, ROLES + 39) || !same(STATE, LANTHANUMBAT_STATE, areas[STATE].length) || !same(HOST, 0, MOST_BYTES) || !same(OUT, 0, MOST_BYTES) || !same(CALLS, 0, MOST_BYTES))
-        fail("an accepted call wrote elsewhere");
+    if (!same(STATE, ROLES, ROLES + 39) || !same(STATE, LANTHANUMBAT_STATE, areas[STATE].length))
+        fail("an accepted call wrote elsewhere in the state");
+    for (n = HOST; n < AREAS; n++)
+        if (!same((int)n, 0, MOST_BYTES))
+            fail("an accepted call wrote elsewhere");
 }
 
 #define LENT words(LIST), areas[LIST].length, areas[NAMES].at, areas[NAMES].length, words(EDGES), areas[EDGES].length, words(DISPATCHES), areas[DISPATCHES].length, words(BADS), areas[BADS].length, words(STATE), areas[STATE].length
@@ -199,7 +84,8 @@ static void try_lower(void) {
     call(c);
     keep(0);
     refusal = lower(c);
-    counts[0][refusal < 15 ? refusal : 14]++;
+    only_inside();
+    lowerings[refusal < NUMBERS ? refusal : 0]++;
     if (refusal > 9 && refusal != 13)
         fail("no number of a lowering");
     if (refusal)
@@ -213,6 +99,7 @@ static void try_lower_all(void) {
     size_t done, n;
     keep(0);
     done = lanthanumbat_lower_all(LENT, words(CALLS), areas[CALLS].length, &refusal);
+    only_inside();
     keep(1);
     restore();
     for (n = 0; n < areas[CALLS].length / LANTHANUMBAT_CALL && one == 0; n++)
@@ -234,7 +121,8 @@ static void try_print(void) {
     size_t from = (size_t)(below(8) ? below(lines ? lines : 1) : number()), count = (size_t)(below(8) ? below(lines ? lines : 1) : number());
     keep(0);
     refusal = lanthanumbat_print(words(LIST), areas[LIST].length, lines, areas[HOST].at, areas[HOST].length, areas[NAMES].at, areas[NAMES].length, from, count, areas[OUT].at, areas[OUT].length, &written);
-    counts[1][refusal < 15 ? refusal : 13]++;
+    only_inside();
+    others[refusal < NUMBERS ? refusal : 0]++;
     if (refusal != 0 && refusal != 9 && refusal != 11 && refusal != 14)
         fail("no number of printing");
     if (refusal ? written != 0 || !all_same() : written > areas[OUT].length || !same(OUT, (size_t)written, areas[OUT].length))
@@ -244,32 +132,30 @@ static void try_print(void) {
 static void try_start(void) {
     uint64_t refusal;
     keep(0);
-    refusal = lanthanumbat_check_start(words(LIST), areas[LIST].length, areas[HOST].at, areas[HOST].length, areas[NAMES].at, areas[NAMES].length, words(EDGES), areas[EDGES].length, words(DISPATCHES), areas[DISPATCHES].length, words(BADS), areas[BADS].length, words(STATE), areas[STATE].length);
-    counts[1][refusal < 15 ? refusal : 13]++;
+    refusal = check_start();
+    only_inside();
+    others[refusal < NUMBERS ? refusal : 0]++;
     if ((refusal != 0 && (refusal < 9 || refusal > 13)) || !all_same())
         fail("the check of a start");
 }
 
 int main(int argc, char **argv) {
-    long rounds = argc > 1 ? atol(argv[1]) : 200000;
-    int n;
+    long rounds = argc > 1 ? atol(argv[1]) : 200000, n;
     if (argc > 2)
-        drawn += strtoull(argv[2], NULL, 10) * 2685821657736338717u;
+        seed(strtoull(argv[2], NULL, 10));
     map();
-    while (rounds-- > 0 && !failed) {
+    for (n = 0; n < rounds && !failed; n++) {
         prepare();
         try_print();
         try_start();
         try_lower_all();
         restore();
         try_lower();
+        try_joins();
     }
-    printf("lowerings by refusal:");
-    for (n = 0; n < 15; n++)
-        printf(" %d: %lu", n, counts[0][n]);
-    printf("\nprints and starts:");
-    for (n = 0; n < 15; n++)
-        printf(" %d: %lu", n, counts[1][n]);
-    puts(failed ? "\nfailed" : "\nok");
+    report("lowerings by refusal", lowerings);
+    report("prints and starts", others);
+    joins_seen(rounds);
+    puts(failed ? "failed" : "ok");
     return failed;
 }

@@ -1,16 +1,16 @@
-/* The header from C: the first word of a line, then a start made with it, lowered, printed and refused. Writes what fails, and ends with
-   status 1 where something does. */
+/* The header from C: the first word of a line, then a start made with it, lowered, joined, printed and refused. Writes what fails, and ends
+   with status 1 where something does. */
 #include "../lanthanumbat.h"
 
 #include <stdio.h>
 #include <string.h>
 
-enum { LINES = 200, NAMES = 64, EDGES = 8, DISPATCHES = 2, BADS = 2, TEXT = 4096 };
+enum { LINES = 200, NAMES = 64, EDGES = 8, DISPATCHES = 2, BADS = 2, SEQUENTIALS = 2, TEXT = 4096 };
 enum { LUI = 0, SRLIW = 22, BLTU = 45, JAL = 47, JALR = 48, ECALL = 49 };
-enum { CONST = 1, ITE = 14, STATE = 19, BAD = 22 };
+enum { CONST = 1, ITE = 14, NOT = 18, STATE = 19, BAD = 22 };
 enum { BIT = 1, WORD = 2, MEMORY = 3 };
 enum { FIRST = 20, START = 39, FLAG = 38 };
-enum { LINES_USED = 0, NEXT_NID = 1, EDGES_USED = 3, ROLES = 6 };
+enum { LINES_USED = 0, NEXT_NID = 1, NAMES_USED = 2, EDGES_USED = 3, ROLES = 6 };
 
 static int failed;
 
@@ -101,7 +101,9 @@ struct storage {
     uint64_t edges[EDGES * LANTHANUMBAT_EDGE];
     uint64_t dispatches[DISPATCHES * LANTHANUMBAT_DISPATCH];
     uint64_t bads[BADS];
+    uint64_t sequentials[SEQUENTIALS];
     uint64_t state[LANTHANUMBAT_STATE];
+    size_t used, flow;
 };
 
 static const uint8_t host[] = "register memory counter flag"; /* "register" names x1 to x31 */
@@ -269,12 +271,136 @@ static void test_wrong_lines(void) {
     EXPECT(one_more(lanthanumbat_head(UINT64_C(4294967296) + nid, CONST, WORD, 0, 0), 7, 0, 0) == 10);
 }
 
+/*
+ * Joins
+ */
+
+enum { REGULAR = 0, BRANCH = 1, SYSCALL = 2 };
+
+/* What stands behind the start: the kernel nodes, the dynamic flags of x1 to x31, the flag of address 65536, and that address as a word. */
+enum { MODE = START, NONE, DYNAMIC, PC_FLAG = DYNAMIC + LANTHANUMBAT_DYNAMICS, ADDRESS, READY };
+
+struct given {
+    uint64_t edges[3 * LANTHANUMBAT_EDGE], dispatches[LANTHANUMBAT_DISPATCH], flags[2 * LANTHANUMBAT_FLAG], dynamics[LANTHANUMBAT_DYNAMICS];
+    size_t count, dispatched, flagged, mode, none;
+};
+
+static struct given g;
+
+/* Lines without a name. */
+static void put_nodes(void) {
+    size_t n;
+    for (n = MODE; n < ADDRESS; n++)
+        put(n, lanthanumbat_head(FIRST + n, STATE, BIT, 0, 0), 0, 0, 0);
+    put(NONE, lanthanumbat_head(FIRST + NONE, NOT, BIT, 0, 0), MODE, 0, 0);
+    put(ADDRESS, lanthanumbat_head(FIRST + ADDRESS, CONST, WORD, 0, 0), 65536, 0, 0);
+    s.state[LINES_USED] = READY;
+    s.state[NEXT_NID] = FIRST + READY;
+}
+
+/* An edge of each origin from 65536, and a dispatch of x5. The edges lead nowhere, since that is not read. */
+static void make_join(void) {
+    static const struct given good = {
+        {7, 65536, REGULAR, UINT64_MAX, 8, 65536, BRANCH, FLAG, 9, 65536, SYSCALL, UINT64_MAX},
+        {5, ADDRESS},
+        {65536, PC_FLAG, 65540, FLAG},
+        {0},
+        3,
+        1,
+        2,
+        MODE,
+        NONE,
+    };
+    size_t n;
+    make_start();
+    put_nodes();
+    g = good;
+    for (n = 0; n < LANTHANUMBAT_DYNAMICS; n++)
+        g.dynamics[n] = DYNAMIC + n;
+}
+
+static uint64_t join_with(size_t list_words, size_t state_words) {
+    return lanthanumbat_join(s.list, list_words, s.names, NAMES, s.sequentials, SEQUENTIALS, s.state, state_words, g.edges,
+                             3 * LANTHANUMBAT_EDGE, g.dispatches, LANTHANUMBAT_DISPATCH, g.flags, 2 * LANTHANUMBAT_FLAG, g.dynamics, g.count,
+                             g.dispatched, g.flagged, g.mode, g.none, &s.used, &s.flow);
+}
+
+static uint64_t join(void) {
+    return join_with(LINES * LANTHANUMBAT_LINE, LANTHANUMBAT_STATE);
+}
+
+/* The call is refused with this number, and changes nothing. Afterwards there is a good one again. */
+static int refuses(uint64_t number) {
+    int yes;
+    before = s;
+    yes = join() == number && unchanged();
+    make_join();
+    return yes;
+}
+
+static const char joined[] = "94 and 1 92 58\n95 ite 1 94 21 92\n"
+                             "96 state 1 kernel-mode-pc-flag-65536\n97 init 1 96 20\n98 ite 1 96 59 92\n99 next 1 96 98\n100 and 1 96 60\n"
+                             "101 ite 1 100 21 95\n"
+                             "102 eq 1 28 93\n103 and 1 65 102\n104 ite 1 103 21 101\n";
+
+static void test_joins(void) {
+    make_join();
+    EXPECT(check_start() == 0);
+    EXPECT(join() == 0);
+    EXPECT(prints(READY, 10, joined));
+    EXPECT(s.flow == READY + 9 && s.used == 1 && s.sequentials[0] == READY + 4);
+    EXPECT(s.state[LINES_USED] == READY + 10 && s.state[NEXT_NID] == FIRST + READY + 11 && s.state[NAMES_USED] == 25);
+    EXPECT(check_start() == 0);
+    /* what was joined is a flag for the lowering, and a flow for the next join */
+    EXPECT(lower(65540, LUI, 5, 0, 0, 1, s.flow) == 0);
+    EXPECT(prints(READY + 10, 2, "105 constd 2 4096\n106 ite 2 104 105 28\n"));
+    g.dispatched = 0;
+    g.count = 1;
+    EXPECT(join() == 0);
+    EXPECT(prints(READY + 12, 1, "107 ite 1 92 21 104\n") && s.flow == READY + 12 && s.used == 1);
+    EXPECT(check_start() == 0);
+    /* nothing is joined */
+    g.count = 0;
+    before = s;
+    EXPECT(join() == 0 && unchanged());
+}
+
+static void test_refused_joins(void) {
+    make_join();
+    s.used = SEQUENTIALS + 1; EXPECT(refuses(9));
+    g.count = 4; EXPECT(refuses(9));
+    g.dispatched = 2; EXPECT(refuses(9));
+    g.flagged = (size_t)-1; EXPECT(refuses(9));
+    s.state[LINES_USED] = LINES + 1; EXPECT(refuses(9));
+    s.state[NAMES_USED] = NAMES + 1; EXPECT(refuses(9));
+    s.state[ROLES] = 2; EXPECT(refuses(13));
+    g.edges[1] = 65544; EXPECT(refuses(15));
+    g.flags[3] = 2; EXPECT(refuses(15)); /* no edge needs it */
+    g.dynamics[LANTHANUMBAT_DYNAMICS - 1] = READY; EXPECT(refuses(15));
+    g.mode = LANTHANUMBAT_NO_FLAG; EXPECT(refuses(15));
+    g.none = ADDRESS; EXPECT(refuses(15));
+    s.flow = 2; EXPECT(refuses(15));
+    g.edges[2] = 3; EXPECT(refuses(16));
+    g.edges[7] = UINT64_MAX; EXPECT(refuses(16));
+    g.dispatches[0] = 0; EXPECT(refuses(16));
+    g.dispatches[0] = 32; EXPECT(refuses(16));
+    g.dispatches[1] = 65536; EXPECT(refuses(16)); /* an address, as a lowering gives it */
+    s.used = SEQUENTIALS; EXPECT(refuses(8));
+    s.state[NAMES_USED] = NAMES - 24; EXPECT(refuses(8));
+    before = s;
+    EXPECT(join_with((READY + 10) * LANTHANUMBAT_LINE - 1, LANTHANUMBAT_STATE) == 8 && unchanged());
+    EXPECT(join_with(LINES * LANTHANUMBAT_LINE, LANTHANUMBAT_STATE - 1) == 9 && unchanged());
+    EXPECT(join_with((READY + 10) * LANTHANUMBAT_LINE, LANTHANUMBAT_STATE) == 0);
+}
+
 int main(void) {
     test_heads();
     test_calls();
     test_many();
     test_printing();
     test_wrong_lines();
+    test_joins();
+    test_refused_joins();
     puts(failed ? "failed" : "ok");
     return failed;
 }
