@@ -14,6 +14,7 @@ use Rattle.btor2.specs.Op.{Op}
 use Rattle.btor2.specs.SortRule.{meetsSortRule, lineIs}
 use Rattle.btor2.specs.Value.{Env, value}
 use Rattle.btor2.proofs.Range.{value-fits}
+use Rattle.btor2.proofs.SortRule.{line-kept}
 use Rattle.btor2_list.specs.Record.{stride}
 use Rattle.btor2_list.specs.Look.{lookAt}
 use Rattle.btor2_list.specs.View.{view}
@@ -34,7 +35,7 @@ use Rattle.lowering_laws.proofs.Laid.{Room, Laid, laid, taking-most}
 use Rattle.meaning.specs.Lines.{operators}
 use Rattle.meaning.proofs.Behind.{inside}
 use Rattle.roles_kept.proofs.Views.{operators-length, numbered-operators, map-append, look-is}
-use Rattle.roles_kept.proofs.RoleSets.{Fit, fit-given, fit-node}
+use Rattle.roles_kept.proofs.RoleSets.{Fit, fit-given, given-fit, fit-node}
 use Rattle.join.specs.Program.{Edge, Dispatch, join}
 use Rattle.join.specs.Given.{dynamicCount, dynamicFor, noFlag, dispatchesIn}
 use Rattle.control_flow.specs.Listed.{Listed, listed, appendListed}
@@ -129,6 +130,11 @@ module _ (l : Lent) (h : Held) (g : Given) (sorted : T (meetsSortRule (operators
 
   fit : Fit xs (h .state .roles)
   fit = fit-given (l .list) n (h .state .roles) (held l h g e) given (subst T (sym (not-false (rolesFit (l .list) n 0 (h .state .roles)) (its l h g e .roles))) tt)
+
+  -- and so they do on a longer list
+  fit-after : (ys more : List (Op ℕ)) → ys ≡ xs ++ more → Fit ys (h .state .roles)
+  unfolding Fit
+  fit-after ys more q j m = rw q (subst T (sym (line-kept _ xs more (role (h .state .roles) j .0) (inside _ xs _ (fit j m)))) (fit j m))
 
   its-node : (r : ℕ) → T (lineIs W xs (registerNode (h .state .roles) r .0))
   its-node = fit-node xs (h .state .roles) fit
@@ -281,9 +287,10 @@ module _ (l : Lent) (h : Held) (g : Given) (sorted : T (meetsSortRule (operators
       above = λ j q. above (namesOf (edgesOf g)) (l .names) (h .state .counts .names) j q;
     };
     sequentials = listed-else p (storeOf l h) .part;
-    stored = subst (λ (r : Run Store ℕ). r .state .tally .lines * stride ≤ length (r .state .words)) (sym forgot) (rw ((its-run l h g e) .lines, (its-run l h g e) .size) (omega (arith, room l h g e .lines)));
+    fit = given-fit (full .state .store .words) (full .state .store .tally .lines) (h .state .roles) stored-in given (fit-after _ (ruled .more) extended);
+    stored = stored-in;
     more = ruled .more;
-    extends = ap (λ (r : Run (List (Op ℕ)) ℕ). r .state) (as-pushed full forgot) ∙ ruled .extends;
+    extends = extended;
     sorted = subst (λ (r : Run (List (Op ℕ)) ℕ). T (meetsSortRule (r .state))) (sym (as-pushed full forgot)) (ruled .sorted);
     means = λ env z. means-in env z full forgot;
     plain = λ env z o d. plain-in env z full forgot o d;
@@ -297,6 +304,12 @@ module _ (l : Lent) (h : Held) (g : Given) (sorted : T (meetsSortRule (operators
 
       forgot : ran (full .state .store) (full .value) ≡ exec append (at (l .list) (h .state .tally)) p
       forgot = forgets p (storeOf l h)
+
+      stored-in : full .state .store .tally .lines * stride ≤ length (full .state .store .words)
+      stored-in = subst (λ (r : Run Store ℕ). r .state .tally .lines * stride ≤ length (r .state .words)) (sym forgot) (rw ((its-run l h g e) .lines, (its-run l h g e) .size) (omega (arith, room l h g e .lines)))
+
+      extended : operators (full .state .store .words) (full .state .store .tally .lines) ≡ xs ++ ruled .more
+      extended = ap (λ (r : Run (List (Op ℕ)) ℕ). r .state) (as-pushed full forgot) ∙ ruled .extends
 
 pub joins-mean : JoinsMean
 joins-mean l h g sorted given e = accepted l h g sorted given e

@@ -1,7 +1,7 @@
 -- What an accepted join does to the list and what its flow means.
 use Prim.Native.Nat.{ℕ, _+_, _*_, _≤_, _<_}
 use mathlib.Core.Path.{_≡_}
-use mathlib.Core.Bool.{_||_}
+use mathlib.Core.Bool.{true, _||_}
 use mathlib.Core.List.{List, [], _++_}
 use lib.Dec.{T}
 use lib.ListN.{length}
@@ -15,6 +15,7 @@ use Rattle.lowering_laws.specs.Elsewhere.{Elsewhere}
 use Rattle.lowering_laws.specs.Lines.{numbered, taking}
 use Rattle.meaning.specs.Lines.{operators}
 use Rattle.roles.specs.Roles.{role, zeroBit, oneBit, roleCount, registerNode}
+use Rattle.roles_check.specs.RolesFit.{rolesFit}
 use Rattle.join.specs.Program.{namesOf}
 use Rattle.join.specs.Given.{dynamicFor}
 use Rattle.join.specs.declared.Held.{Held}
@@ -42,6 +43,8 @@ module _ (l : Lent) (h : Held) (g : Given) where
     pub lines : a .held .state .tally .lines ≡ h .state .tally .lines + lineCount (h .state) g
     pub nids : a .held .state .tally .nid ≡ h .state .tally .nid + taking (linesOf (placeAfter (h .state .tally .lines)) 0 (programOf (h .state) g))
     pub roles : a .held .state .roles ≡ h .state .roles
+    -- and they fit again, so that another call can follow
+    pub fit : rolesFit (a .lent .list) (a .held .state .tally .lines) 0 (a .held .state .roles) ≡ true
     pub stored : a .held .state .tally .lines * stride ≤ length (a .lent .list)
     -- what is lent changes after what is in use, as far as is counted, and nowhere else
     pub list : Elsewhere (h .state .tally .lines * stride) ((h .state .tally .lines + lineCount (h .state) g) * stride) (l .list) (a .lent .list)
