@@ -21,6 +21,13 @@ pub enum NodeType {
     Input7Byte,
 }
 
+// What `get_sort` gives for the sorts of the builder's own lines.
+pub const BIT: u64 = 1;
+
+pub const WORD: u64 = 2;
+
+pub const MEMORY: u64 = 3;
+
 // Where the bytes of a name lie: area 1 is the host's, 2 ours, and a missing name has area 0.
 pub struct Name {
     pub area: u64,

@@ -1,3 +1,4 @@
+pub mod Limits
 pub mod Record
 pub mod Node
 pub mod View

@@ -47,9 +47,16 @@ pub const NID_UNIT: u64 = 4294967296;
 // The largest numbers that fields of the first word hold, and the mark that we write for a State's init; on reading, any but 0 is one.
 const MOST_IN_BYTE: u64 = 255;
 
-const MOST_NID: u64 = 4294967295;
+const MOST_IN_FOUR_BYTES: u64 = 4294967295;
 
 const MARK_OF_INIT: u64 = 1;
+
+// The most lines that a list holds, the largest next identifier at a start, and at a lowering, which is the largest of a line that is printed.
+pub const MOST_LINES: usize = 1_048_576;
+
+pub const MOST_START_NID: u64 = 2_147_483_648;
+
+pub const MOST_NID: u64 = 2_149_580_800;
 
 // The kinds of a record, in the order of unicorn's `Node`.
 pub const CONST: u64 = 1;
@@ -169,7 +176,7 @@ fn head_of(kind: u64, sort: u64, area: u64, init: u64, nid: u64) -> u64
         + SORT_UNIT * saturate(MOST_IN_BYTE, sort)
         + AREA_UNIT * saturate(MOST_IN_BYTE, area)
         + INIT_UNIT * saturate(MARK_OF_INIT, init)
-        + NID_UNIT * saturate(MOST_NID, nid)
+        + NID_UNIT * saturate(MOST_IN_FOUR_BYTES, nid)
 }
 
 fn saturate(most: u64, n: u64) -> u64

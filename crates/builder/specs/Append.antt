@@ -24,12 +24,12 @@ abbrev pub made : List ℕ → Made → Run Store ℕ
 made ws r = ran (at ws (r .tally)) (r .node .0)
 
 -- how many identifiers a record of this kind and constant takes: "a State with an init takes two identifiers"
-abbrev pub takenBy : ℕ → ℕ → ℕ
-takenBy kind imm = cond (eqb kind stateKind) (cond (eqb imm 0) 1 2) 1
+abbrev pub nidsTaken : ℕ → ℕ → ℕ
+nidsTaken kind imm = cond (eqb kind stateKind) (cond (eqb imm 0) 1 2) 1
 
 -- the tally after one more line
 abbrev pub counted : Tally → Line → Tally
-counted t l = record { lines = t .lines + 1; nid = (t .nid + takenBy (l .kind) (l .imm)) % 2 ^ 64 }
+counted t l = record { lines = t .lines + 1; nid = (t .nid + nidsTaken (l .kind) (l .imm)) % 2 ^ 64 }
 
 unfoldable pub appendLine : Store → Line → Run Store ℕ
 appendLine st l =

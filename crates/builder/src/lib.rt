@@ -8,7 +8,7 @@ use btor2_list::STATE;
 ghost use mathlib.Core.Path.{_≡_};
 ghost use Rattle.btor2_list.specs.Node.{row};
 ghost use Rattle.program.specs.Prog.{ran};
-ghost use Rattle.builder.specs.Append.{takenBy, appendLine, at, made};
+ghost use Rattle.builder.specs.Append.{nidsTaken, appendLine, at, made};
 
 // The count of lines, and the next identifier.
 pub struct Tally {
@@ -24,7 +24,7 @@ pub struct Made {
 
 // How many identifiers a line takes: a State with an init two.
 fn taken_by(kind: u64, imm: u64) -> u64
-    ensures { λ r. ⌜ r ≡ takenBy kind imm ⌝ }
+    ensures { λ r. ⌜ r ≡ nidsTaken kind imm ⌝ }
 {
     if kind == STATE {
         if imm == 0 {

@@ -1,5 +1,7 @@
 // The operators on two words that take one line.
+use btor2::BIT;
 use btor2::NodeRef;
+use btor2::WORD;
 use btor2_list::ADD;
 use btor2_list::DIV;
 use btor2_list::DIVU;
@@ -11,8 +13,6 @@ use btor2_list::SUB;
 use btor2_list::ULT;
 use builder::Made;
 use builder::Tally;
-use builder_lines::BIT;
-use builder_lines::WORD;
 use builder_lines::plain;
 ghost use mathlib.Core.Path.{_≡_};
 ghost use Rattle.btor2.specs.Sort.{sortNumber};

@@ -3,6 +3,7 @@
 use btor2::Name;
 use btor2::NodeRef;
 use btor2::NodeType;
+use btor2::WORD;
 use btor2::get_sort;
 use btor2_list::BAD;
 use btor2_list::CONST;
@@ -18,13 +19,6 @@ ghost use Rattle.btor2_list.specs.Node.{row, noName};
 ghost use Rattle.program.specs.OneLine.{newConst, newExt, newIte, newState, newNext, newBad};
 ghost use Rattle.builder.specs.Append.{appendLine, at, made};
 ghost use Rattle.builder.specs.Gives.{Gives};
-
-// The sorts as printed.
-pub const BIT: u64 = 1;
-
-pub const WORD: u64 = 2;
-
-pub const MEMORY: u64 = 3;
 
 // A line with neither constant nor name.
 pub fn plain(

@@ -1,12 +1,12 @@
 // Equality, And and Not: one line each.
+use btor2::BIT;
 use btor2::NodeRef;
+use btor2::WORD;
 use btor2_list::AND;
 use btor2_list::EQ;
 use btor2_list::NOT;
 use builder::Made;
 use builder::Tally;
-use builder_lines::BIT;
-use builder_lines::WORD;
 use builder_lines::plain;
 ghost use Rattle.program.specs.OneLine.{newEq, newAndBit, newAndWord, newNotBit, newNotWord};
 ghost use Rattle.builder.specs.Gives.{Gives};

@@ -1,11 +1,11 @@
 // Reads and writes of a memory: one line each.
+use btor2::MEMORY;
 use btor2::NodeRef;
+use btor2::WORD;
 use btor2_list::READ;
 use btor2_list::WRITE;
 use builder::Made;
 use builder::Tally;
-use builder_lines::MEMORY;
-use builder_lines::WORD;
 use builder_lines::plain;
 ghost use Rattle.program.specs.OneLine.{newRead, newWrite};
 ghost use Rattle.builder.specs.Gives.{Gives};

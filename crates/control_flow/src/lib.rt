@@ -18,7 +18,7 @@ ghost use Rattle.text.specs.Put.{Put};
 ghost use Rattle.control_flow.specs.FlagName.{flagName};
 ghost use Rattle.control_flow.specs.Listed.{listed, Lists};
 ghost use Rattle.control_flow.specs.ControlFlow.{controlFlowFromAny, controlFlowFromRegular, controlFlowFromBranch, controlFlowFromEcall, controlFlowFromJalr};
-ghost use Rattle.control_flow.specs.Code.{bitsOf, kernelOf};
+ghost use Rattle.control_flow.specs.Code.{bitPlaces, kernelPlaces};
 
 // The zero and the one bit.
 pub struct Bits {
@@ -40,7 +40,7 @@ pub fn control_flow_from_any(
     activate: NodeRef,
     flow: NodeRef,
 ) -> Made
-    ensures { λ r. ⌜ Gives (now (list .entry)) t (controlFlowFromAny (bitsOf b) (activate .0) (flow .0)) (now (list .exit)) (r .tally) (r .node .0) ⌝ }
+    ensures { λ r. ⌜ Gives (now (list .entry)) t (controlFlowFromAny (bitPlaces b) (activate .0) (flow .0)) (now (list .exit)) (r .tally) (r .node .0) ⌝ }
 {
     let zero = b.zero;
     if flow.0 == zero.0 {
@@ -59,7 +59,7 @@ pub fn control_flow_from_regular(
     flag: NodeRef,
     flow: NodeRef,
 ) -> Made
-    ensures { λ r. ⌜ Gives (now (list .entry)) t (controlFlowFromRegular (bitsOf b) (flag .0) (flow .0)) (now (list .exit)) (r .tally) (r .node .0) ⌝ }
+    ensures { λ r. ⌜ Gives (now (list .entry)) t (controlFlowFromRegular (bitPlaces b) (flag .0) (flow .0)) (now (list .exit)) (r .tally) (r .node .0) ⌝ }
 {
     control_flow_from_any(list, t, b, flag, flow)
 }
@@ -72,7 +72,7 @@ pub fn control_flow_from_branch(
     condition: NodeRef,
     flow: NodeRef,
 ) -> Made
-    ensures { λ r. ⌜ Gives (now (list .entry)) t (controlFlowFromBranch (bitsOf b) (flag .0) (condition .0) (flow .0)) (now (list .exit)) (r .tally) (r .node .0) ⌝ }
+    ensures { λ r. ⌜ Gives (now (list .entry)) t (controlFlowFromBranch (bitPlaces b) (flag .0) (condition .0) (flow .0)) (now (list .exit)) (r .tally) (r .node .0) ⌝ }
 {
     let a = new_and_bit(list, t, flag, condition);
     control_flow_from_any(list, a.tally, b, a.node, flow)
@@ -90,7 +90,7 @@ pub fn control_flow_from_ecall(
     name: Name,
     flow: NodeRef,
 ) -> Made
-    ensures { λ r. ⌜ Lists (listed (at (now (list .entry)) t) (now (sequentials .entry)) count) (controlFlowFromEcall (bitsOf b) (kernelOf k) (flag .0) name (flow .0)) (listed (at (now (list .exit)) (r .tally)) (now (sequentials .exit)) (count + 1)) (r .node .0) ⌝ }
+    ensures { λ r. ⌜ Lists (listed (at (now (list .entry)) t) (now (sequentials .entry)) count) (controlFlowFromEcall (bitPlaces b) (kernelPlaces k) (flag .0) name (flow .0)) (listed (at (now (list .exit)) (r .tally)) (now (sequentials .exit)) (count + 1)) (r .node .0) ⌝ }
 {
     let s = new_state(list, t, NodeType::Bit, b.zero, name);
     let i = new_ite(list, s.tally, NodeType::Bit, s.node, k.mode, flag);
@@ -109,7 +109,7 @@ pub fn control_flow_from_jalr(
     pc: NodeRef,
     flow: NodeRef,
 ) -> Made
-    ensures { λ r. ⌜ Gives (now (list .entry)) t (controlFlowFromJalr (bitsOf b) (register .0) (dynamic .0) (pc .0) (flow .0)) (now (list .exit)) (r .tally) (r .node .0) ⌝ }
+    ensures { λ r. ⌜ Gives (now (list .entry)) t (controlFlowFromJalr (bitPlaces b) (register .0) (dynamic .0) (pc .0) (flow .0)) (now (list .exit)) (r .tally) (r .node .0) ⌝ }
 {
     let e = new_eq(list, t, register, pc);
     let a = new_and_bit(list, e.tally, dynamic, e.node);

@@ -21,43 +21,43 @@ use Rattle.meaning.proofs.Behind.{inside}
 use Rattle.roles_kept.proofs.RoleSets.{Fit, Roled, fit-node, fit-flow}
 use Rattle.program.specs.Prog.{exec}
 use Rattle.control_flow.specs.Listed.{appendListed}
-use Rattle.join.specs.Refusal.{Lent, Given, programOf, refusalOf}
-use Rattle.join.specs.declared.Held.{Held as JoinHeld}
-use Rattle.join.specs.Join.{Answer, storeOf, settled, refused, joining}
+use Rattle.join.specs.Refusal.{JoinLent, JoinInput, joinProgram, joinRefusal}
+use Rattle.join.specs.declared.JoinHeld.{JoinHeld}
+use Rattle.join.specs.Join.{JoinAnswer, joinStore, joinSettled, joinRefused, joining}
 use Rattle.join_laws.specs.Means.{AcceptedJoin}
 use Rattle.join_laws.proofs.Accepted.{held, joins-mean}
-use Rattle.demand.specs.Calls.{Held, linesIn, Join, join, lentJoin, heldJoin, joinAnswer, joinAccepted, step}
+use Rattle.demand.specs.Calls.{Held, linesIn, Join, join, lentJoin, heldJoin, joinAnswerTo, joinAccepted, step}
 use Rattle.demand.specs.Demand3.{registerNodeValue, memoryNodeValue, registerFlowValue, memoryFlowValue}
 use Rattle.demand.proofs.Views.{front-operators, front-length}
 use Rattle.demand.proofs.Call.{Good}
 use Rattle.demand.proofs.Step.{Sound}
 
 -- accepted
-abbrev went : Lent → JoinHeld → Given → Answer
-went l k g = settled l k g (exec appendListed (storeOf l k) (programOf (k .state) g))
+abbrev went : JoinLent → JoinHeld → JoinInput → JoinAnswer
+went l k g = joinSettled l k g (exec appendListed (joinStore l k) (joinProgram (k .state) g))
 
-pick : (t : Bool) (n : ℕ) (a b : Answer) → eqb n 0 ≡ t → a .refusal ≡ 0 → b .refusal ≡ n → cond t a b .refusal ≡ n
+pick : (t : Bool) (n : ℕ) (a b : JoinAnswer) → eqb n 0 ≡ t → a .refusal ≡ 0 → b .refusal ≡ n → cond t a b .refusal ≡ n
 pick true n a b e p q = p ∙ sym (eqb-true n 0 e)
 pick false n a b e p q = q
 
-pub refusal-is : (l : Lent) (k : JoinHeld) (g : Given) → joining l k g .refusal ≡ refusalOf l k g
-unfolding joining settled
-refusal-is l k g = pick (eqb (refusalOf l k g) 0) (refusalOf l k g) (went l k g) (refused (refusalOf l k g) l k g) refl refl refl
+pub refusal-is : (l : JoinLent) (k : JoinHeld) (g : JoinInput) → joining l k g .refusal ≡ joinRefusal l k g
+unfolding joining joinSettled
+refusal-is l k g = pick (eqb (joinRefusal l k g) 0) (joinRefusal l k g) (went l k g) (joinRefused (joinRefusal l k g) l k g) refl refl refl
 
-same : (t : Bool) (rs : List NodeRef) (a b : Answer) → a .held .state .roles ≡ rs → b .held .state .roles ≡ rs → cond t a b .held .state .roles ≡ rs
+same : (t : Bool) (rs : List NodeRef) (a b : JoinAnswer) → a .held .state .roles ≡ rs → b .held .state .roles ≡ rs → cond t a b .held .state .roles ≡ rs
 same true rs a b p q = p
 same false rs a b p q = q
 
 module _ (h : Held) (c : Join) where
   abbrev number : ℕ
-  number = refusalOf (lentJoin h c) (heldJoin h c) (c .given)
+  number = joinRefusal (lentJoin h c) (heldJoin h c) (c .given)
 
   accepted-is : joinAccepted h c ≡ eqb number 0
-  unfolding joinAccepted joinAnswer
+  unfolding joinAccepted joinAnswerTo
   accepted-is = ap (λ n. eqb n 0) (refusal-is (lentJoin h c) (heldJoin h c) (c .given))
 
   abbrev taken : Held
-  taken = record { list = joinAnswer h c .lent .list; names = joinAnswer h c .lent .names; state = joinAnswer h c .held .state }
+  taken = record { list = joinAnswerTo h c .lent .list; names = joinAnswerTo h c .lent .names; state = joinAnswerTo h c .held .state }
 
   by-step : (Q : Held → Type 0) → (number ≡ 0 → Q taken) → Q h → Q (step h (join c))
   unfolding step
@@ -69,10 +69,10 @@ module _ (h : Held) (c : Join) where
 
   -- no role changes
   pub roles-join : step h (join c) .state .roles ≡ h .state .roles
-  unfolding joinAnswer joining settled heldJoin
+  unfolding joinAnswerTo joining joinSettled heldJoin
   roles-join =
       by-step (λ x. x .state .roles ≡ h .state .roles)
-      (λ q. same (eqb number 0) (h .state .roles) (went (lentJoin h c) (heldJoin h c) (c .given)) (refused number (lentJoin h c) (heldJoin h c) (c .given)) refl refl) refl
+      (λ q. same (eqb number 0) (h .state .roles) (went (lentJoin h c) (heldJoin h c) (c .given)) (joinRefused number (lentJoin h c) (heldJoin h c) (c .given)) refl refl) refl
 
   module _ (s : Sound h) where
     stored : h .state .tally .lines * stride ≤ length (h .list)
@@ -88,8 +88,8 @@ module _ (h : Held) (c : Join) where
       unfolding lentJoin
       lent-lines = front-operators (h .list) (c .list) (h .state .tally .lines) stored roomy
 
-      accepted : AcceptedJoin (lentJoin h c) (heldJoin h c) (c .given) (joinAnswer h c)
-      unfolding Sound joinAnswer heldJoin
+      accepted : AcceptedJoin (lentJoin h c) (heldJoin h c) (c .given) (joinAnswerTo h c)
+      unfolding Sound joinAnswerTo heldJoin
       accepted = joins-mean (lentJoin h c) (heldJoin h c) (c .given) (subst (λ xs. T (meetsSortRule xs)) (sym lent-lines) (s .sorted)) (s .roles .size) q
 
       -- the lines after it

@@ -13,9 +13,9 @@ use Rattle.riscv.specs.declared.Instruction.{Instruction}
 use Rattle.lowering_refusals.specs.declared.State.{State}
 use Rattle.lowering.specs.Lowering.{Lent, lent, Answer, lowering}
 use Rattle.meaning.specs.Lines.{operators}
-use Rattle.join.specs.declared.Held.{Held as JoinHeld}
-use Rattle.join.specs.Refusal.{Given, Lent as JoinLent, lent as joinLent}
-use Rattle.join.specs.Join.{Answer as JoinAnswer, joining}
+use Rattle.join.specs.declared.JoinHeld.{JoinHeld}
+use Rattle.join.specs.Refusal.{JoinInput, JoinLent, joinLent}
+use Rattle.join.specs.Join.{JoinAnswer, joining}
 
 -- what passes on: the words of the list, our name area, and the state, which has the counts and the roles
 pub record Held : Type 0 where
@@ -47,7 +47,7 @@ pub record Request : Type 0 where
 -- one join of edges (document 02, R-1: "The third demand's list of calls takes the joins in"): what it is given, and all that the host lends
 -- with it, of any length; the sequentials may change in between too
 pub record Join : Type 0 where
-  pub given : Given
+  pub given : JoinInput
   pub list : List ℕ
   pub names : List ℕ
   pub sequentials : List ℕ
@@ -93,11 +93,11 @@ lentJoin h c = joinLent (listFor h (c .list)) (namesFor h (c .names)) (c .sequen
 unfoldable pub heldJoin : Held → Join → JoinHeld
 heldJoin h c = record { state = h .state; sequentials = c .sequentialCount }
 
-unfoldable pub joinAnswer : Held → Join → JoinAnswer
-joinAnswer h c = joining (lentJoin h c) (heldJoin h c) (c .given)
+unfoldable pub joinAnswerTo : Held → Join → JoinAnswer
+joinAnswerTo h c = joining (lentJoin h c) (heldJoin h c) (c .given)
 
 unfoldable pub joinAccepted : Held → Join → Bool
-joinAccepted h c = eqb (joinAnswer h c .refusal) 0
+joinAccepted h c = eqb (joinAnswerTo h c .refusal) 0
 
 -- what is held after a call; "through a refused call as they were"
 unfoldable pub step : Held → Call → Held
@@ -105,7 +105,7 @@ step h (lower c) =
     let a = answerTo h c in
     cond (accepted h c) (record { list = a .lent .list; names = a .lent .names; state = a .lowered .state }) h
 step h (join c) =
-    let a = joinAnswer h c in
+    let a = joinAnswerTo h c in
     cond (joinAccepted h c) (record { list = a .lent .list; names = a .lent .names; state = a .held .state }) h
 
 unfoldable pub run : Held → List Call → Held

@@ -14,7 +14,8 @@ use Rattle.instruction_class.specs.Class.{needsFlag}
 use Rattle.riscv.specs.Kind.{Kind, kindAt}
 use Rattle.riscv.specs.Manual.{Effect, nothing, setsRd, setsMemory, manual}
 use Rattle.riscv.specs.Memory.{bytesOf, cellsWith}
-use Rattle.roles.specs.Roles.{memoryNode, memoryFlow, roleCount, lastRegister, role, registerNode, registerFlow}
+use Rattle.roles.specs.Roles.{memoryNode, memoryFlow, roleCount, role, registerNode, registerFlow}
+use Rattle.riscv.specs.Format.{lastRegister}
 use Rattle.lowering_refusals.specs.Refusal.{roomOf}
 use Rattle.start.specs.Start.{startRefusal}
 use Rattle.meaning.specs.Access.{InOneWord, excluded}
@@ -133,7 +134,7 @@ module _ (env : Env) (start : Held) (calls : List Call) where
   StaysInOneWord = InOneWordEach (registerNodeValue env start) trueOnes
 
   -- every register flow, and the memory flow at every address
-  pub record Flows : Type 0 where
+  pub record FlowValues : Type 0 where
     pub registers : (r : ℕ) → 1 ≤ r → r ≤ lastRegister → registerFlowValue env (run start calls) r ≡ registersBy env start trueOnes r
     pub memory : (a : ℕ) → a < 2 ^ 64 → memoryFlowValue env (run start calls) a ≡ memoryBy env start trueOnes a
 
@@ -141,7 +142,7 @@ pub record Means (start : Held) (calls : List Call) : Type 0 where
   -- every line of the final list meets the sort rule: "An operand is an earlier line other than Next and Bad"
   pub sorted : T (meetsSortRule (linesIn (run start calls)))
   -- for any states and inputs
-  pub flows : (env : Env) → AtMostOne env start calls → StaysInOneWord env start calls → ZeroRegister env start → Flows env start calls
+  pub flows : (env : Env) → AtMostOne env start calls → StaysInOneWord env start calls → ZeroRegister env start → FlowValues env start calls
 
 abbrev pub Demand3 : Type 0
 Demand3 = (start : Held) (calls : List Call) → AcceptedStart start → Records calls → NoneExcluded start calls → Means start calls

@@ -20,16 +20,16 @@ use Rattle.state_words.proofs.Words.{by-six, size-in, state-kept, put-length}
 use Rattle.lowering.proofs.Words.{read-back}
 use Rattle.roles_kept.proofs.Call.{refusal-is, roled-after}
 use Rattle.lowering_refusals.specs.declared.Counts.{Counts}
-use Rattle.join.specs.declared.Held as J
-use Rattle.join.specs.Refusal.{lineCount, programOf, roomOut, refusalOf, lent as joinLent, Lent as JoinLent, Given as JoinGiven}
+use Rattle.join.specs.declared.JoinHeld.{JoinHeld}
+use Rattle.join.specs.Refusal.{joinLineCount, joinProgram, joinRoomOut, joinRefusal, joinLent, JoinLent, JoinInput}
 use Rattle.program.specs.Prog.{exec}
 use Rattle.control_flow.specs.Listed.{appendListed}
-use Rattle.join.specs.Join.{settled, refused, storeOf, joining, Answer as JoinAnswer}
-use Rattle.join.specs.Words.{joiningWords, joinBy as wordsBy}
+use Rattle.join.specs.Join.{joinSettled, joinRefused, joinStore, joining, JoinAnswer}
+use Rattle.join.specs.Words.{joiningWords, joinBy}
 use Rattle.join.proofs.Laws.{refused-leaves, roles-stay}
 use Rattle.demand.proofs.JoinStep.{refusal-is as join-refusal-is}
-use Rattle.demand.specs.Calls.{Held, Request, Join, Call, lower, join, inFront, lentFor, stateFor, answerTo, accepted, lentJoin, heldJoin, joinAnswer, joinAccepted, step, run}
-use Rattle.demand_all.specs.Chain.{Kept, LowerLink, JoinLink, Link, lowers, joins, withCounts, answerBy, joinBy, after, chain, requestFor, joinFor, callFor, chainCalls, heldIn, PassesOn, ChainIsRun}
+use Rattle.demand.specs.Calls.{Held, Request, Join, Call, lower, join, inFront, lentFor, stateFor, answerTo, accepted, lentJoin, heldJoin, joinAnswerTo, joinAccepted, step, run}
+use Rattle.demand_all.specs.Chain.{Kept, LowerLink, JoinLink, Link, lowers, joins, withCounts, answerBy, joinAnswerBy, after, chain, requestFor, joinFor, callFor, chainCalls, heldIn, PassesOn, ChainIsRun}
 use Rattle.demand_all.proofs.Many.{front-self, refused-lent}
 
 -- ---- the counts that the host sets
@@ -129,7 +129,7 @@ module _ (h : Held) (k : Kept) (c : LowerLink) (p : PassesOn h k) (enough : stat
 abbrev with-others : State → Counts → State
 with-others s o = record { tally = s .tally; counts = record { names = s .counts .names; edges = o .edges; dispatches = o .dispatches; bads = o .bads }; roles = s .roles }
 
-abbrev holding : State → ℕ → J.Held
+abbrev holding : State → ℕ → JoinHeld
 holding s n = record { state = s; sequentials = n }
 
 record Agree (a b : JoinAnswer) : Type 0 where
@@ -144,15 +144,15 @@ either true a b c d x y = x
 either false a b c d x y = y
 
 -- accepted
-abbrev went : JoinLent → J.Held → JoinGiven → JoinAnswer
-went l h g = settled l h g (exec appendListed (storeOf l h) (programOf (h .state) g))
+abbrev went : JoinLent → JoinHeld → JoinInput → JoinAnswer
+went l h g = joinSettled l h g (exec appendListed (joinStore l h) (joinProgram (h .state) g))
 
-agree : (l : JoinLent) (s : State) (o : Counts) (n : ℕ) (g : JoinGiven) → Agree (joining l (holding (with-others s o) n) g) (joining l (holding s n) g)
-unfolding joining settled refusalOf roomOut lineCount programOf
+agree : (l : JoinLent) (s : State) (o : Counts) (n : ℕ) (g : JoinInput) → Agree (joining l (holding (with-others s o) n) g) (joining l (holding s n) g)
+unfolding joining joinSettled joinRefusal joinRoomOut joinLineCount joinProgram
 agree l s o n g =
     let before = holding (with-others s o) n in
     let after = holding s n in
-    either (eqb (refusalOf l after g) 0) (went l before g) (refused (refusalOf l before g) l before g) (went l after g) (refused (refusalOf l after g) l after g)
+    either (eqb (joinRefusal l after g) 0) (went l before g) (joinRefused (joinRefusal l before g) l before g) (went l after g) (joinRefused (joinRefusal l after g) l after g)
     (record { refusal = refl; lent = refl; tally = refl; used = refl; roles = refl }) (record { refusal = refl; lent = refl; tally = refl; used = refl; roles = refl })
 
 module _ (h : Held) (k : Kept) (c : JoinLink) (p : PassesOn h k) (enough : stateWords ≤ length (k .state)) where
@@ -166,16 +166,16 @@ module _ (h : Held) (k : Kept) (c : JoinLink) (p : PassesOn h k) (enough : state
   unfolding lentJoin inFront
   join-lent-is = rw (p .list, p .names, front-self (h .state .tally .lines * stride) (k .list), front-self (h .state .counts .names) (k .names))
 
-  same : Agree (joinAnswer h (joinFor k c)) joined
-  unfolding joinAnswer heldJoin
+  same : Agree (joinAnswerTo h (joinFor k c)) joined
+  unfolding joinAnswerTo heldJoin
   same = rw (join-lent-is, p .tally, p .used, p .roles) (agree joined-lent (stateIn (k .state)) (h .state .counts) (c .used) (c .given))
 
-  join-given-is : joinBy k c ≡ wordsBy (k .state) joined
-  unfolding joinBy joiningWords
+  join-given-is : joinAnswerBy k c ≡ joinBy (k .state) joined
+  unfolding joinAnswerBy joiningWords
   join-given-is = rw (le-ltb (length (k .state)) stateWords enough)
 
   join-step : (b : Bool) → eqb (joined .refusal) 0 ≡ b
-      → step h (join (joinFor k c)) ≡ cond b (record { list = joinAnswer h (joinFor k c) .lent .list; names = joinAnswer h (joinFor k c) .lent .names; state = joinAnswer h (joinFor k c) .held .state }) h
+      → step h (join (joinFor k c)) ≡ cond b (record { list = joinAnswerTo h (joinFor k c) .lent .list; names = joinAnswerTo h (joinFor k c) .lent .names; state = joinAnswerTo h (joinFor k c) .held .state }) h
   unfolding step joinAccepted
   join-step b q = rw (same .refusal, q)
 
@@ -183,7 +183,7 @@ module _ (h : Held) (k : Kept) (c : JoinLink) (p : PassesOn h k) (enough : state
   unfolding stateIn
   size = ap length (roles-stay joined-lent (holding (stateIn (k .state)) (c .used)) (c .given)) ∙ size-in (k .state)
 
-  turned : eqb (joined .refusal) 0 ≡ false → joined ≡ refused (refusalOf joined-lent (holding (stateIn (k .state)) (c .used)) (c .given)) joined-lent (holding (stateIn (k .state)) (c .used)) (c .given)
+  turned : eqb (joined .refusal) 0 ≡ false → joined ≡ joinRefused (joinRefusal joined-lent (holding (stateIn (k .state)) (c .used)) (c .given)) joined-lent (holding (stateIn (k .state)) (c .used)) (c .given)
   turned q =
       refused-leaves joined-lent (holding (stateIn (k .state)) (c .used)) (c .given)
       (λ z. eqb-false (joined .refusal) 0 q (join-refusal-is joined-lent (holding (stateIn (k .state)) (c .used)) (c .given) ∙ z))

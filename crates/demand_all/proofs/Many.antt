@@ -10,8 +10,7 @@ use Rattle.btor2_list.specs.Record.{stride}
 use Rattle.lowering_refusals.specs.declared.State.{State}
 use Rattle.lowering_refusals.specs.Refusal.{refusalOf}
 use Rattle.lowering.specs.Lowering.{Lent, lent, Answer, settled, roomIn, loweringGiven, lowering}
-use Rattle.lowering.specs.All as Many
-use Rattle.lowering.specs.All.{AnswerAll, answerAll, loweringOn}
+use Rattle.lowering.specs.All.{LowerCall, AnswerAll, answerAll, loweringOn}
 use Rattle.lowering_laws.proofs.OneCall.{when-refused}
 use Rattle.demand.specs.Calls.{Held, Call, lower, inFront, lentFor, stateFor, answerTo, accepted, step, run}
 use Rattle.demand_all.specs.Many.{held, request, requests, ManyAreRun}
@@ -22,7 +21,7 @@ front-self zero (w ∷ ws) = refl
 front-self (suc n) [] = refl
 front-self (suc n) (w ∷ ws) = ap (λ l. w ∷ l) (front-self n ws)
 
-module _ (l : Lent) (st : State) (c : Many.Call) where
+module _ (l : Lent) (st : State) (c : LowerCall) where
   abbrev a : Answer
   a = lowering l st (c .instruction) (c .address) (c .flag)
 
@@ -47,18 +46,18 @@ module _ (l : Lent) (st : State) (c : Many.Call) where
   refused-is h = rw (answer-is, ne-eqb (a .lowered .refusal) 0 h) (ap (λ (b : Answer). held (b .lent) (b .lowered .state)) (sym (when-refused l st (c .instruction) (c .address) (c .flag) (λ e. h (taken e)))))
 
 -- what is made of an answer
-abbrev then : ℕ → List Many.Call → Answer → Bool → AnswerAll
+abbrev then : ℕ → List LowerCall → Answer → Bool → AnswerAll
 then k cs b t = elim t [ true ↦ loweringOn (k + 1) (b .lent) (b .lowered .state) cs | false ↦ answerAll k (b .lowered .refusal) (b .lowered .state) (b .lent) ]
 
 -- and the calls after it
-abbrev next : List Many.Call → Answer → Bool → List Call
+abbrev next : List LowerCall → Answer → Bool → List Call
 next cs b t = elim t [ true ↦ requests (b .lent) (b .lowered .state) cs | false ↦ [] ]
 
 -- whatever the count of calls before
-Left : ℕ → List Many.Call → Type 0
+Left : ℕ → List LowerCall → Type 0
 Left k cs = (l : Lent) (st : State) → run (held l st) (requests l st cs) ≡ held (loweringOn k l st cs .lent) (loweringOn k l st cs .state)
 
-after : (c : Many.Call) (cs : List Many.Call) (k : ℕ) (l : Lent) (st : State) → Left (k + 1) cs → (t : Bool) → eqb (a l st c .lowered .refusal) 0 ≡ t
+after : (c : LowerCall) (cs : List LowerCall) (k : ℕ) (l : Lent) (st : State) → Left (k + 1) cs → (t : Bool) → eqb (a l st c .lowered .refusal) 0 ≡ t
     → run (step (held l st) (lower (request l st c))) (next cs (a l st c) t) ≡ held (then k cs (a l st c) t .lent) (then k cs (a l st c) t .state)
 unfolding Left run
 after c cs k l st rest true q =
@@ -66,7 +65,7 @@ after c cs k l st rest true q =
     ∙ rest (a l st c .lent) (a l st c .lowered .state)
 after c cs k l st rest false q = refused-is l st c (eqb-false (a l st c .lowered .refusal) 0 q)
 
-many : (cs : List Many.Call) (k : ℕ) → Left k cs
+many : (cs : List LowerCall) (k : ℕ) → Left k cs
 unfolding Left loweringOn requests run
 many [] k l st = refl
 many (c ∷ cs) k l st = after c cs k l st (many cs (k + 1)) (eqb (a l st c .lowered .refusal) 0) refl

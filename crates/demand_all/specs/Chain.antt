@@ -8,8 +8,8 @@ use lib.ListN.{length, set}
 use Rattle.lowering.specs.Lowering.{Lent, lent}
 use Rattle.state_words.specs.Words.{stateWords, stateIn}
 use Rattle.lowering.specs.Words.{Given, loweringWords}
-use Rattle.lowering.specs.All as All
-use Rattle.join.specs.Refusal.{lent as joinLent, Given as JoinGiven}
+use Rattle.lowering.specs.All.{LowerCall}
+use Rattle.join.specs.Refusal.{joinLent, JoinInput}
 use Rattle.join.specs.Words.{GivenJoin, joiningWords}
 use Rattle.demand.specs.Calls.{Held, Request, Join, Call, lower, join, run}
 
@@ -20,7 +20,7 @@ pub record Kept : Type 0 where
 
 -- one lowering, and what is lent with it besides the list and our name area
 pub record LowerLink : Type 0 where
-  pub call : All.Call
+  pub call : LowerCall
   pub edges : List ℕ
   pub dispatches : List ℕ
   pub bads : List ℕ
@@ -30,7 +30,7 @@ pub record LowerLink : Type 0 where
 
 -- one join, what it is given, and the sequentials that are lent with it
 pub record JoinLink : Type 0 where
-  pub given : JoinGiven
+  pub given : JoinInput
   pub sequentials : List ℕ
   pub used : ℕ
 
@@ -47,13 +47,13 @@ answerBy k c =
     loweringWords (lent (k .list) (k .names) (c .edges) (c .dispatches) (c .bads)) (withCounts (k .state) c) (c .call .instruction) (c .call .address)
     (c .call .flag)
 
-unfoldable pub joinBy : Kept → JoinLink → GivenJoin
-joinBy k c = joiningWords (joinLent (k .list) (k .names) (c .sequentials)) (k .state) (c .used) (c .given)
+unfoldable pub joinAnswerBy : Kept → JoinLink → GivenJoin
+joinAnswerBy k c = joiningWords (joinLent (k .list) (k .names) (c .sequentials)) (k .state) (c .used) (c .given)
 
 -- what the host keeps after a call, and after all of a chain, refused ones among them
 unfoldable pub after : Kept → Link → Kept
 after k (lowers c) = let g = answerBy k c in record { list = g .lent .list; names = g .lent .names; state = g .state }
-after k (joins c) = let g = joinBy k c in record { list = g .lent .list; names = g .lent .names; state = g .state }
+after k (joins c) = let g = joinAnswerBy k c in record { list = g .lent .list; names = g .lent .names; state = g .state }
 
 unfoldable pub chain : Kept → List Link → Kept
 chain k [] = k

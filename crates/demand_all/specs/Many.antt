@@ -6,14 +6,13 @@ use mathlib.Core.List.{List, [], _∷_}
 use lib.Dec.{eqb}
 use Rattle.lowering_refusals.specs.declared.State.{State}
 use Rattle.lowering.specs.Lowering.{Lent, lowering}
-use Rattle.lowering.specs.All as Many
-use Rattle.lowering.specs.All.{loweringOn}
+use Rattle.lowering.specs.All.{LowerCall, loweringOn}
 use Rattle.demand.specs.Calls.{Held, Request, Call, lower, run}
 
 abbrev pub held : Lent → State → Held
 held l st = record { list = l .list; names = l .names; state = st }
 
-abbrev pub request : Lent → State → Many.Call → Request
+abbrev pub request : Lent → State → LowerCall → Request
 request l st c = record {
   instruction = c .instruction;
   address = c .address;
@@ -28,7 +27,7 @@ request l st c = record {
   badCount = st .counts .bads;
 }
 
-unfoldable pub requests : Lent → State → List Many.Call → List Call
+unfoldable pub requests : Lent → State → List LowerCall → List Call
 requests l st [] = []
 requests l st (c ∷ cs) =
     let a = lowering l st (c .instruction) (c .address) (c .flag) in
@@ -38,5 +37,5 @@ requests l st (c ∷ cs) =
     ]
 
 abbrev pub ManyAreRun : Type 0
-ManyAreRun = (l : Lent) (st : State) (cs : List Many.Call)
+ManyAreRun = (l : Lent) (st : State) (cs : List LowerCall)
     → run (held l st) (requests l st cs) ≡ held (loweringOn 0 l st cs .lent) (loweringOn 0 l st cs .state)

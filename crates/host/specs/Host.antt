@@ -6,8 +6,7 @@ use mathlib.Core.List.{List}
 use lib.Dec.{ltb}
 use lib.ListN.{length}
 use Rattle.lowering_refusals.specs.declared.Room.{Room}
-use Rattle.print.specs.Printing as Printing
-use Rattle.print.specs.Printing.{refused, written, printing}
+use Rattle.print.specs.Printing.{PrintAnswer, refused, written, printing}
 use Rattle.start.specs.Start.{startRefusal}
 use Rattle.state_words.specs.Words.{stateWords, stateIn}
 
@@ -22,7 +21,7 @@ pub record GivenText : Type 0 where
 abbrev pub givenText : ℕ → ℕ → List ℕ → GivenText
 givenText n len out = record { refusal = n; length = len; output = out }
 
-abbrev pub textBy : Printing.Answer → List ℕ → GivenText
+abbrev pub textBy : PrintAnswer → List ℕ → GivenText
 textBy (refused n) out = givenText n 0 out
 textBy (written len) out = givenText 0 len out
 

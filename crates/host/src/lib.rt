@@ -1,6 +1,7 @@
 // The library for a host in C or Rust. A slice is a pointer and a length there; the state is 85 words that the host keeps.
 use btor2::NodeRef;
 use join::Asked;
+use lowering_refusals::BAD_COUNT;
 use print::Printed;
 use riscv::Instruction;
 use state_words::STATE_WORDS;
@@ -10,12 +11,9 @@ ghost use Rattle.lowering.specs.Lowering.{lent};
 ghost use Rattle.lowering_refusals.specs.Refusal.{roomOf};
 ghost use Rattle.lowering.specs.Words.{given, loweringWords};
 ghost use Rattle.lowering.specs.All.{givenAll, loweringAllWords};
-ghost use Rattle.join.specs.Refusal.{lent as joinLent, given as joinGiven};
+ghost use Rattle.join.specs.Refusal.{joinLent, joinInput};
 ghost use Rattle.join.specs.Words.{givenJoin, joiningWords};
 ghost use Rattle.host.specs.Host.{givenText, hostPrinting, hostCheck};
-
-// A count above its storage.
-const BAD_COUNT: u64 = 9;
 
 // Lowers the instruction `kind`, `rd`, `rs1`, `rs2`, `imm` at an address under a flag. Gives the number of the refusal, or 0. A refused call
 // changes nothing.
@@ -97,7 +95,7 @@ pub extern "C" fn lanthanumbat_join(
     used: &mut usize,
     flow: &mut usize,
 ) -> u64
-    ensures { λ r. ⌜ givenJoin r (now (flow .exit)) (now (used .exit)) (joinLent (now (list .exit)) (now (names .exit)) (now (sequentials .exit))) (now (state .exit)) ≡ joiningWords (joinLent (now (list .entry)) (now (names .entry)) (now (sequentials .entry))) (now (state .entry)) (now (used .entry)) (joinGiven (now (edges .entry)) (now (dispatches .entry)) (now (flags .entry)) (now (dynamics .entry)) (record { edges = count; dispatches = dispatched; flags = flagged; mode = record { 0 = mode }; none = record { 0 = none }; flow = record { 0 = now (flow .entry) } })) ⌝ }
+    ensures { λ r. ⌜ givenJoin r (now (flow .exit)) (now (used .exit)) (joinLent (now (list .exit)) (now (names .exit)) (now (sequentials .exit))) (now (state .exit)) ≡ joiningWords (joinLent (now (list .entry)) (now (names .entry)) (now (sequentials .entry))) (now (state .entry)) (now (used .entry)) (joinInput (now (edges .entry)) (now (dispatches .entry)) (now (flags .entry)) (now (dynamics .entry)) (record { edges = count; dispatches = dispatched; flags = flagged; mode = record { 0 = mode }; none = record { 0 = none }; flow = record { 0 = now (flow .entry) } })) ⌝ }
 {
     let a = Asked {
         edges: count,

@@ -23,11 +23,11 @@ use Rattle.control_flow.specs.FlagName.{flagName}
 use Rattle.control_flow.specs.Listed.{appendListed}
 use Rattle.control_flow.specs.ControlFlow.{controlFlowFromAny, controlFlowFromRegular, controlFlowFromBranch, controlFlowFromEcall, controlFlowFromJalr}
 use Rattle.join.specs.declared.Asked.{Asked}
-use Rattle.join.specs.declared.Held.{Held}
-use Rattle.join.specs.Program.{namesOf, nextsOf, fromEdge, joinEdges, joinDispatches, join}
+use Rattle.join.specs.declared.JoinHeld.{JoinHeld}
+use Rattle.join.specs.Program.{namesOf, nextsOf, fromEdge, joinEdges, joinDispatches, joinAddress}
 use Rattle.join.specs.Given.{edgesIn, dispatchesIn, noFlag, flagFor}
-use Rattle.join.specs.Refusal.{Lent, lent, Given, given, programOf, edgesUnflagged, tableOut, dynamicsOut, flagsOut, edgesOut, dispatchesOut, lineCount, roomOut, refusalOf}
-use Rattle.join.specs.Join.{Answer, settled, joining}
+use Rattle.join.specs.Refusal.{JoinLent, joinLent, JoinInput, joinInput, joinProgram, edgesUnflagged, tableOut, dynamicsOut, flagsOut, edgesOut, dispatchesOut, joinLineCount, joinRoomOut, joinRefusal}
+use Rattle.join.specs.Join.{JoinAnswer, joinSettled, joining}
 
 -- ---- the start: the bits 0 and 1, a word, a memory, a bit's state, another 0, and a Next, which is no value line
 
@@ -42,15 +42,15 @@ stored nid (o ∷ os) = words (lineOf nid o) ++ stored (nid + 1) os
 places : List NodeRef
 places = map ref ((0 ∷ 1 ∷ 2 ∷ 2 ∷ 3 ∷ 3 ∷ []) ++ (replicate 64 2 ++ (3 ∷ 3 ∷ 2 ∷ 2 ∷ 2 ∷ 2 ∷ 0 ∷ 0 ∷ 0 ∷ [])))
 
-begun : ℕ → ℕ → Held
+begun : ℕ → ℕ → JoinHeld
 begun nid sequentials = record {
   state = record { tally = record { lines = 7; nid = nid }; counts = record { names = 2; edges = 9; dispatches = 9; bads = 9 }; roles = places };
   sequentials = sequentials;
 }
 
 -- room for so many lines, bytes and sequentials
-room : ℕ → ℕ → ℕ → Lent
-room lines bytes sequentials = lent (stored 20 start-lines ++ replicate ((lines * 4) + 3) 7) (replicate (bytes + 2) 7) (replicate sequentials 7)
+room : ℕ → ℕ → ℕ → JoinLent
+room lines bytes sequentials = joinLent (stored 20 start-lines ++ replicate ((lines * 4) + 3) 7) (replicate (bytes + 2) 7) (replicate sequentials 7)
 
 -- ---- what is given: the first flag of 4 is the state, a second one and that of 8 are the bit 1
 
@@ -61,8 +61,8 @@ table : List ℕ
 table = 4 ∷ 4 ∷ 4 ∷ 1 ∷ 8 ∷ 1 ∷ 12 ∷ 0 ∷ []
 
 -- edges and dispatches with this table, the state for every other bit, from a flow
-of : List ℕ → List ℕ → ℕ → Given
-of edges dispatches flow = given edges dispatches table (replicate 31 4) (asked (length edges / 4) (length dispatches / 2) 4 4 1 flow)
+of : List ℕ → List ℕ → ℕ → JoinInput
+of edges dispatches flow = joinInput edges dispatches table (replicate 31 4) (asked (length edges / 4) (length dispatches / 2) 4 4 1 flow)
 
 regular : ℕ → List ℕ
 regular from = 0 ∷ from ∷ 0 ∷ noFlag ∷ []
@@ -83,7 +83,7 @@ record Got : Type 0 where
   names : List ℕ
   sequentials : List ℕ
 
-got : Given → Got
+got : JoinInput → Got
 got g =
     let a = joining (room 30 60 3) (begun 27 1) g in
     record {
@@ -97,20 +97,20 @@ got g =
 
 -- nothing to join; a flow that is the zero bit's own place is replaced without a line, and so is one that a flag made it
 none : got (of [] [] 0) ≡ record { refusal = 0; nodes = []; flow = 0; nid = 27; names = []; sequentials = 7 ∷ [] }
-unfolding got of table stored start-lines places begun room asked regular branch syscall view lineAt opOf carried rolesFit edgesIn dispatchesIn flagFor namesOf nextsOf programOf join joinEdges joinDispatches fromEdge controlFlowFromAny controlFlowFromRegular controlFlowFromBranch controlFlowFromEcall controlFlowFromJalr linesOf _>>=_ appendLine appendListed flagName numeral edgesUnflagged tableOut dynamicsOut flagsOut edgesOut dispatchesOut lineCount roomOut refusalOf settled joining
+unfolding got of table stored start-lines places begun room asked regular branch syscall view lineAt opOf carried rolesFit edgesIn dispatchesIn flagFor namesOf nextsOf joinProgram joinAddress joinEdges joinDispatches fromEdge controlFlowFromAny controlFlowFromRegular controlFlowFromBranch controlFlowFromEcall controlFlowFromJalr linesOf _>>=_ appendLine appendListed flagName numeral edgesUnflagged tableOut dynamicsOut flagsOut edgesOut dispatchesOut joinLineCount joinRoomOut joinRefusal joinSettled joining
 none = refl
 
 -- the first flag of 4; then the bit 1, by an ite; from a 0 that is not the zero bit's own place an ite too
 regulars : got (of (regular 4 ++ regular 8) [] 0) ≡ record { refusal = 0; nodes = node 27 (ite Bit 1 1 4) ∷ []; flow = 7; nid = 28; names = []; sequentials = 7 ∷ [] }
-unfolding got of table stored start-lines places begun room asked regular branch syscall view lineAt opOf carried rolesFit edgesIn dispatchesIn flagFor namesOf nextsOf programOf join joinEdges joinDispatches fromEdge controlFlowFromAny controlFlowFromRegular controlFlowFromBranch controlFlowFromEcall controlFlowFromJalr linesOf _>>=_ appendLine appendListed flagName numeral edgesUnflagged tableOut dynamicsOut flagsOut edgesOut dispatchesOut lineCount roomOut refusalOf settled joining
+unfolding got of table stored start-lines places begun room asked regular branch syscall view lineAt opOf carried rolesFit edgesIn dispatchesIn flagFor namesOf nextsOf joinProgram joinAddress joinEdges joinDispatches fromEdge controlFlowFromAny controlFlowFromRegular controlFlowFromBranch controlFlowFromEcall controlFlowFromJalr linesOf _>>=_ appendLine appendListed flagName numeral edgesUnflagged tableOut dynamicsOut flagsOut edgesOut dispatchesOut joinLineCount joinRoomOut joinRefusal joinSettled joining
 regulars = refl
 
 zeros : got (of (regular 12 ++ branch 4 1) [] 0) ≡ record { refusal = 0; nodes = node 27 (and Bit 4 1) ∷ []; flow = 7; nid = 28; names = []; sequentials = 7 ∷ [] }
-unfolding got of table stored start-lines places begun room asked regular branch syscall view lineAt opOf carried rolesFit edgesIn dispatchesIn flagFor namesOf nextsOf programOf join joinEdges joinDispatches fromEdge controlFlowFromAny controlFlowFromRegular controlFlowFromBranch controlFlowFromEcall controlFlowFromJalr linesOf _>>=_ appendLine appendListed flagName numeral edgesUnflagged tableOut dynamicsOut flagsOut edgesOut dispatchesOut lineCount roomOut refusalOf settled joining
+unfolding got of table stored start-lines places begun room asked regular branch syscall view lineAt opOf carried rolesFit edgesIn dispatchesIn flagFor namesOf nextsOf joinProgram joinAddress joinEdges joinDispatches fromEdge controlFlowFromAny controlFlowFromRegular controlFlowFromBranch controlFlowFromEcall controlFlowFromJalr linesOf _>>=_ appendLine appendListed flagName numeral edgesUnflagged tableOut dynamicsOut flagsOut edgesOut dispatchesOut joinLineCount joinRoomOut joinRefusal joinSettled joining
 zeros = refl
 
 other-zero : got (of (regular 4) [] 5) ≡ record { refusal = 0; nodes = node 27 (ite Bit 4 1 5) ∷ []; flow = 7; nid = 28; names = []; sequentials = 7 ∷ [] }
-unfolding got of table stored start-lines places begun room asked regular branch syscall view lineAt opOf carried rolesFit edgesIn dispatchesIn flagFor namesOf nextsOf programOf join joinEdges joinDispatches fromEdge controlFlowFromAny controlFlowFromRegular controlFlowFromBranch controlFlowFromEcall controlFlowFromJalr linesOf _>>=_ appendLine appendListed flagName numeral edgesUnflagged tableOut dynamicsOut flagsOut edgesOut dispatchesOut lineCount roomOut refusalOf settled joining
+unfolding got of table stored start-lines places begun room asked regular branch syscall view lineAt opOf carried rolesFit edgesIn dispatchesIn flagFor namesOf nextsOf joinProgram joinAddress joinEdges joinDispatches fromEdge controlFlowFromAny controlFlowFromRegular controlFlowFromBranch controlFlowFromEcall controlFlowFromJalr linesOf _>>=_ appendLine appendListed flagName numeral edgesUnflagged tableOut dynamicsOut flagsOut edgesOut dispatchesOut joinLineCount joinRoomOut joinRefusal joinSettled joining
 other-zero = refl
 
 -- a syscall takes six identifiers for its five lines; its Next is listed with the sequentials; the dispatch comes after it
@@ -132,25 +132,25 @@ syscalls : got (of (syscall 8) (31 ∷ 2 ∷ []) 4)
       names = ascii "kernel-mode-pc-flag-8";
       sequentials = 7 ∷ 9 ∷ [];
     }
-unfolding got of table stored start-lines places begun room asked regular branch syscall view lineAt opOf carried rolesFit edgesIn dispatchesIn flagFor namesOf nextsOf programOf join joinEdges joinDispatches fromEdge controlFlowFromAny controlFlowFromRegular controlFlowFromBranch controlFlowFromEcall controlFlowFromJalr linesOf _>>=_ appendLine appendListed flagName numeral edgesUnflagged tableOut dynamicsOut flagsOut edgesOut dispatchesOut lineCount roomOut refusalOf settled joining
+unfolding got of table stored start-lines places begun room asked regular branch syscall view lineAt opOf carried rolesFit edgesIn dispatchesIn flagFor namesOf nextsOf joinProgram joinAddress joinEdges joinDispatches fromEdge controlFlowFromAny controlFlowFromRegular controlFlowFromBranch controlFlowFromEcall controlFlowFromJalr linesOf _>>=_ appendLine appendListed flagName numeral edgesUnflagged tableOut dynamicsOut flagsOut edgesOut dispatchesOut joinLineCount joinRoomOut joinRefusal joinSettled joining
 syscalls = refl
 
 -- ---- refused ones, each beside one that is not: the number of the first refusal that applies
 
-numbered : Held → Lent → Given → ℕ → Bool
-numbered h l g n = eqb (refusalOf l h g) n
+numbered : JoinHeld → JoinLent → JoinInput → ℕ → Bool
+numbered h l g n = eqb (joinRefusal l h g) n
 
 -- what each of these is given in the place of the above
-with-table : List ℕ → ℕ → Given
-with-table flags n = given (regular 4) [] flags (replicate 31 4) (asked 1 0 n 4 1 0)
+with-table : List ℕ → ℕ → JoinInput
+with-table flags n = joinInput (regular 4) [] flags (replicate 31 4) (asked 1 0 n 4 1 0)
 
-with-bits : ℕ → ℕ → ℕ → ℕ → ℕ → Given
-with-bits mode none first last flow = given [] [] [] ((first ∷ replicate 29 4) ++ (last ∷ [])) (asked 0 0 0 mode none flow)
+with-bits : ℕ → ℕ → ℕ → ℕ → ℕ → JoinInput
+with-bits mode none first last flow = joinInput [] [] [] ((first ∷ replicate 29 4) ++ (last ∷ [])) (asked 0 0 0 mode none flow)
 
-counts : ℕ → ℕ → ℕ → Given
-counts edges dispatches flags = given (regular 4 ++ (0 ∷ 4 ∷ [])) (1 ∷ 2 ∷ 1 ∷ []) (4 ∷ 4 ∷ 4 ∷ []) (replicate 31 4) (asked edges dispatches flags 4 1 0)
+counts : ℕ → ℕ → ℕ → JoinInput
+counts edges dispatches flags = joinInput (regular 4 ++ (0 ∷ 4 ∷ [])) (1 ∷ 2 ∷ 1 ∷ []) (4 ∷ 4 ∷ 4 ∷ []) (replicate 31 4) (asked edges dispatches flags 4 1 0)
 
-one : Lent
+one : JoinLent
 one = room 0 0 0
 
 every : List Bool → Bool
@@ -198,5 +198,5 @@ cases =
     ∷ []
 
 all-numbered : T (every cases)
-unfolding got of table stored start-lines places begun room asked regular branch syscall view lineAt opOf carried rolesFit edgesIn dispatchesIn flagFor namesOf nextsOf programOf join joinEdges joinDispatches fromEdge controlFlowFromAny controlFlowFromRegular controlFlowFromBranch controlFlowFromEcall controlFlowFromJalr linesOf _>>=_ appendLine appendListed flagName numeral edgesUnflagged tableOut dynamicsOut flagsOut edgesOut dispatchesOut lineCount roomOut refusalOf settled joining numbered with-table with-bits counts one every cases
+unfolding got of table stored start-lines places begun room asked regular branch syscall view lineAt opOf carried rolesFit edgesIn dispatchesIn flagFor namesOf nextsOf joinProgram joinAddress joinEdges joinDispatches fromEdge controlFlowFromAny controlFlowFromRegular controlFlowFromBranch controlFlowFromEcall controlFlowFromJalr linesOf _>>=_ appendLine appendListed flagName numeral edgesUnflagged tableOut dynamicsOut flagsOut edgesOut dispatchesOut joinLineCount joinRoomOut joinRefusal joinSettled joining numbered with-table with-bits counts one every cases
 all-numbered = tt

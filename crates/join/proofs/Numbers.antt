@@ -13,13 +13,13 @@ use Rattle.edges.specs.Records.{dispatchStride}
 use Rattle.riscv.specs.Refusal.{first}
 use Rattle.riscv.proofs.First.{hit, miss}
 use Rattle.roles_check.specs.RolesFit.{rolesFit}
-use Rattle.lowering_refusals.specs.Refusal.{mostLines, mostNid}
+use Rattle.btor2_list.specs.Limits.{mostLines, mostNid}
 use Rattle.lowering_refusals.proofs.Within.{neither}
-use Rattle.join.specs.declared.Held.{Held}
+use Rattle.join.specs.declared.JoinHeld.{JoinHeld}
 use Rattle.join.specs.Given.{flagStride}
-use Rattle.join.specs.Refusal.{Lent, Given, edgesOf, dispatchesOf, countsOut, flagsOut, edgesOut, dispatchesOut, roomOut, refusalOf}
+use Rattle.join.specs.Refusal.{JoinLent, JoinInput, edgesOf, dispatchesOf, joinCountsOut, flagsOut, edgesOut, dispatchesOut, joinRoomOut, joinRefusal}
 
-module _ (l : Lent) (h : Held) (g : Given) where
+module _ (l : JoinLent) (h : JoinHeld) (g : JoinInput) where
   abbrev lines : ℕ
   lines = h .state .tally .lines
 
@@ -33,7 +33,7 @@ module _ (l : Lent) (h : Held) (g : Given) where
   Tests = List (Bool × ℕ)
 
   abbrev from8 : Tests
-  from8 = (roomOut l h g, 8) ∷ []
+  from8 = (joinRoomOut l h g, 8) ∷ []
 
   abbrev from16 : Tests
   from16 = (recordsOut, 16) ∷ from8
@@ -46,32 +46,32 @@ module _ (l : Lent) (h : Held) (g : Given) where
 
   -- ---- the number, where the tests before it are passed
 
-  pub is-9 : countsOut l h g ≡ true → 9 ≡ refusalOf l h g
-  unfolding refusalOf
+  pub is-9 : joinCountsOut l h g ≡ true → 9 ≡ joinRefusal l h g
+  unfolding joinRefusal
   is-9 e = hit 9 from13 e
 
-  module _ (e9 : countsOut l h g ≡ false) where
-    pub is-13 : rolesOut ≡ true → 13 ≡ refusalOf l h g
-    unfolding refusalOf
+  module _ (e9 : joinCountsOut l h g ≡ false) where
+    pub is-13 : rolesOut ≡ true → 13 ≡ joinRefusal l h g
+    unfolding joinRefusal
     is-13 e = miss 9 from13 e9 (hit 13 from15 e)
 
     module _ (e13 : rolesOut ≡ false) where
-      pub is-15 : flagsOut (l .list) lines g ≡ true → 15 ≡ refusalOf l h g
-      unfolding refusalOf
+      pub is-15 : flagsOut (l .list) lines g ≡ true → 15 ≡ joinRefusal l h g
+      unfolding joinRefusal
       is-15 e = miss 9 from13 e9 (miss 13 from15 e13 (hit 15 from16 e))
 
       module _ (e15 : flagsOut (l .list) lines g ≡ false) where
-        pub is-16 : recordsOut ≡ true → 16 ≡ refusalOf l h g
-        unfolding refusalOf
+        pub is-16 : recordsOut ≡ true → 16 ≡ joinRefusal l h g
+        unfolding joinRefusal
         is-16 e = miss 9 from13 e9 (miss 13 from15 e13 (miss 15 from16 e15 (hit 16 from8 e)))
 
         module _ (e16 : recordsOut ≡ false) where
-          pub is-8 : roomOut l h g ≡ true → 8 ≡ refusalOf l h g
-          unfolding refusalOf
+          pub is-8 : joinRoomOut l h g ≡ true → 8 ≡ joinRefusal l h g
+          unfolding joinRefusal
           is-8 e = miss 9 from13 e9 (miss 13 from15 e13 (miss 15 from16 e15 (miss 16 from8 e16 (hit 8 [] e))))
 
-          pub is-0 : roomOut l h g ≡ false → 0 ≡ refusalOf l h g
-          unfolding refusalOf
+          pub is-0 : joinRoomOut l h g ≡ false → 0 ≡ joinRefusal l h g
+          unfolding joinRefusal
           is-0 e = miss 9 from13 e9 (miss 13 from15 e13 (miss 15 from16 e15 (miss 16 from8 e16 (miss 8 [] e refl))))
 
   -- ---- what is passed
@@ -86,7 +86,7 @@ module _ (l : Lent) (h : Held) (g : Given) where
     pub flags : g .asked .flags * flagStride ≤ length (g .flags)
     pub sequentials : h .sequentials ≤ length (l .sequentials)
 
-  pub within : countsOut l h g ≡ false → Within
+  pub within : joinCountsOut l h g ≡ false → Within
   within e =
       let p1 = neither (ltb mostLines lines) _ e in
       let p2 = neither (ltb mostNid (h .state .tally .nid)) _ (p1 .1) in
@@ -116,15 +116,15 @@ module _ (l : Lent) (h : Held) (g : Given) where
     pub flags : flagsOut (l .list) lines g ≡ false
     pub edges : edgesOut (l .list) lines (edgesOf g) ≡ false
     pub dispatches : dispatchesOut (l .list) lines (dispatchesOf g) ≡ false
-    pub room : roomOut l h g ≡ false
+    pub room : joinRoomOut l h g ≡ false
 
-  pub passed : refusalOf l h g ≡ 0 → Passed
-  unfolding refusalOf
+  pub passed : joinRefusal l h g ≡ 0 → Passed
+  unfolding joinRefusal
   passed e =
-      let p9 = passes (countsOut l h g) 9 from13 (λ z. omega arith) e in
+      let p9 = passes (joinCountsOut l h g) 9 from13 (λ z. omega arith) e in
       let p13 = passes rolesOut 13 from15 (λ z. omega arith) (p9 .1) in
       let p15 = passes (flagsOut (l .list) lines g) 15 from16 (λ z. omega arith) (p13 .1) in
       let p16 = passes recordsOut 16 from8 (λ z. omega arith) (p15 .1) in
-      let p8 = passes (roomOut l h g) 8 [] (λ z. omega arith) (p16 .1) in
+      let p8 = passes (joinRoomOut l h g) 8 [] (λ z. omega arith) (p16 .1) in
       let b = neither (edgesOut (l .list) lines (edgesOf g)) _ (p16 .0) in
       record { counts = within (p9 .0); roles = p13 .0; flags = p15 .0; edges = b .0; dispatches = b .1; room = p8 .0 }

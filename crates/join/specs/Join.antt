@@ -9,43 +9,43 @@ use Rattle.builder.specs.Append.{at}
 use Rattle.program.specs.Prog.{Run, exec}
 use Rattle.lowering_refusals.specs.declared.Counts.{Counts}
 use Rattle.control_flow.specs.Listed.{Listed, listed, appendListed}
-use Rattle.join.specs.declared.Held.{Held}
+use Rattle.join.specs.declared.JoinHeld.{JoinHeld}
 use Rattle.join.specs.Program.{namesOf}
-use Rattle.join.specs.Refusal.{Lent, lent, Given, edgesOf, programOf, refusalOf}
+use Rattle.join.specs.Refusal.{JoinLent, joinLent, JoinInput, edgesOf, joinProgram, joinRefusal}
 
 -- what a call gives: the refusal, the flow, what passes on, and the lent lists as it leaves them
-pub record Answer : Type 0 where
+pub record JoinAnswer : Type 0 where
   pub refusal : ℕ
   pub flow : ℕ
-  pub held : Held
-  pub lent : Lent
+  pub held : JoinHeld
+  pub lent : JoinLent
 
-abbrev pub answer : ℕ → ℕ → Held → Lent → Answer
-answer n flow h l = record { refusal = n; flow = flow; held = h; lent = l }
+abbrev pub joinAnswer : ℕ → ℕ → JoinHeld → JoinLent → JoinAnswer
+joinAnswer n flow h l = record { refusal = n; flow = flow; held = h; lent = l }
 
 abbrev pub withNames : Counts → ℕ → Counts
 withNames c n = record { names = n; edges = c .edges; dispatches = c .dispatches; bads = c .bads }
 
 -- what an accepted call gives, from the run of its program
-unfoldable pub settled : Lent → Held → Given → Run Listed ℕ → Answer
-settled l h g r =
+unfoldable pub joinSettled : JoinLent → JoinHeld → JoinInput → Run Listed ℕ → JoinAnswer
+joinSettled l h g r =
     let names = namesOf (edgesOf g) in
     let c = h .state .counts in
-    answer 0 (r .value)
+    joinAnswer 0 (r .value)
     (record {
       state = record { tally = r .state .store .tally; counts = withNames c (c .names + length names); roles = h .state .roles };
       sequentials = r .state .count;
     })
-    (lent (r .state .store .words) (sets (l .names) (c .names) names) (r .state .sequentials))
+    (joinLent (r .state .store .words) (sets (l .names) (c .names) names) (r .state .sequentials))
 
 -- a refused call gives its number, and all as it was
-abbrev pub refused : ℕ → Lent → Held → Given → Answer
-refused n l h g = answer n (g .asked .flow .0) h l
+abbrev pub joinRefused : ℕ → JoinLent → JoinHeld → JoinInput → JoinAnswer
+joinRefused n l h g = joinAnswer n (g .asked .flow .0) h l
 
 -- the store that a call starts from
-abbrev pub storeOf : Lent → Held → Listed
-storeOf l h = listed (at (l .list) (h .state .tally)) (l .sequentials) (h .sequentials)
+abbrev pub joinStore : JoinLent → JoinHeld → Listed
+joinStore l h = listed (at (l .list) (h .state .tally)) (l .sequentials) (h .sequentials)
 
-unfoldable pub joining : Lent → Held → Given → Answer
+unfoldable pub joining : JoinLent → JoinHeld → JoinInput → JoinAnswer
 joining l h g =
-    cond (eqb (refusalOf l h g) 0) (settled l h g (exec appendListed (storeOf l h) (programOf (h .state) g))) (refused (refusalOf l h g) l h g)
+    cond (eqb (joinRefusal l h g) 0) (joinSettled l h g (exec appendListed (joinStore l h) (joinProgram (h .state) g))) (joinRefused (joinRefusal l h g) l h g)

@@ -21,13 +21,13 @@ pub record Dispatch (A : Type 0) : Type 0 where
   pub address : A
 
 -- the bytes that an edge puts into our name area: the name of a syscall edge's State
-abbrev pub nameText : ℕ → ℕ → List ℕ
-nameText origin from = cond (eqb origin syscallOrigin) (flagName from) []
+abbrev pub edgeName : ℕ → ℕ → List ℕ
+edgeName origin from = cond (eqb origin syscallOrigin) (flagName from) []
 
 -- those of edges, one after the other
 unfoldable pub namesOf : {A : Type 0} → List (Edge A) → List ℕ
 namesOf [] = []
-namesOf (x ∷ xs) = nameText (x .origin) (x .from) ++ namesOf xs
+namesOf (x ∷ xs) = edgeName (x .origin) (x .from) ++ namesOf xs
 
 -- how many Nexts an edge appends, and edges append
 abbrev pub nextsBy : ℕ → ℕ
@@ -48,7 +48,7 @@ module _ {A : Type 0} where
   joinEdges b k flagOf at [] flow = done flow
   joinEdges b k flagOf at (x ∷ xs) flow = do
     f ← fromEdge b k flagOf at x flow
-    joinEdges b k flagOf (at + length (nameText (x .origin) (x .from))) xs f
+    joinEdges b k flagOf (at + length (edgeName (x .origin) (x .from))) xs f
 
   unfoldable pub joinDispatches : Bits A → (ℕ → A) → (ℕ → A) → List (Dispatch A) → A → Prog A A
   joinDispatches b registers dynamics [] flow = done flow
@@ -57,7 +57,7 @@ module _ {A : Type 0} where
     joinDispatches b registers dynamics xs f
 
   -- "Edges first, then dispatches, each in list order"
-  unfoldable pub join : Bits A → Kernel A → (ℕ → A) → (ℕ → A) → (ℕ → A) → ℕ → List (Edge A) → List (Dispatch A) → A → Prog A A
-  join b k flagOf registers dynamics at edges dispatches flow = do
+  unfoldable pub joinAddress : Bits A → Kernel A → (ℕ → A) → (ℕ → A) → (ℕ → A) → ℕ → List (Edge A) → List (Dispatch A) → A → Prog A A
+  joinAddress b k flagOf registers dynamics at edges dispatches flow = do
     f ← joinEdges b k flagOf at edges flow
     joinDispatches b registers dynamics dispatches f

@@ -14,44 +14,45 @@ use Rattle.edges.specs.Records.{dispatchStride}
 use Rattle.program.specs.Prog.{Prog}
 use Rattle.program.specs.Lines.{linesOf, placeAfter}
 use Rattle.riscv.specs.Refusal.{first}
-use Rattle.roles.specs.Roles.{role, zeroBit, oneBit, lastRegister, registerNode}
+use Rattle.roles.specs.Roles.{role, zeroBit, oneBit, registerNode}
+use Rattle.riscv.specs.Format.{lastRegister}
 use Rattle.roles_check.specs.RolesFit.{valueSort, rolesFit}
 use Rattle.lowering_refusals.specs.declared.State.{State}
-use Rattle.lowering_refusals.specs.Refusal.{mostLines, mostNid}
+use Rattle.btor2_list.specs.Limits.{mostLines, mostNid}
 use Rattle.control_flow.specs.ControlFlow.{Bits, Kernel}
 use Rattle.join.specs.declared.Asked.{Asked}
-use Rattle.join.specs.declared.Held.{Held}
-use Rattle.join.specs.Program.{Edge, Dispatch, namesOf, nextsOf, join}
+use Rattle.join.specs.declared.JoinHeld.{JoinHeld}
+use Rattle.join.specs.Program.{Edge, Dispatch, namesOf, nextsOf, joinAddress}
 use Rattle.join.specs.Given.{edgesIn, dispatchesIn, noFlag, flagStride, flagFor, dynamicCount, dynamicFor}
 
 -- what the host lends to be written: the list, our name area, the sequentials
-pub record Lent : Type 0 where
+pub record JoinLent : Type 0 where
   pub list : List ℕ
   pub names : List ℕ
   pub sequentials : List ℕ
 
-abbrev pub lent : List ℕ → List ℕ → List ℕ → Lent
-lent list names sequentials = record { list = list; names = names; sequentials = sequentials }
+abbrev pub joinLent : List ℕ → List ℕ → List ℕ → JoinLent
+joinLent list names sequentials = record { list = list; names = names; sequentials = sequentials }
 
 -- what a join is given: "one address's edges and dispatches [..] in order, a table of flags by address, the kernel-mode, kernel-not and dynamic
 -- flag nodes and a starting flow"; the numbers among these are `Asked`
-pub record Given : Type 0 where
+pub record JoinInput : Type 0 where
   pub edges : List ℕ
   pub dispatches : List ℕ
   pub flags : List ℕ
   pub dynamics : List ℕ
   pub asked : Asked
 
-abbrev pub given : List ℕ → List ℕ → List ℕ → List ℕ → Asked → Given
-given edges dispatches flags dynamics a = record { edges = edges; dispatches = dispatches; flags = flags; dynamics = dynamics; asked = a }
+abbrev pub joinInput : List ℕ → List ℕ → List ℕ → List ℕ → Asked → JoinInput
+joinInput edges dispatches flags dynamics a = record { edges = edges; dispatches = dispatches; flags = flags; dynamics = dynamics; asked = a }
 
-abbrev pub edgesOf : Given → List (Edge ℕ)
+abbrev pub edgesOf : JoinInput → List (Edge ℕ)
 edgesOf g = edgesIn (g .asked .edges) (g .edges)
 
-abbrev pub dispatchesOf : Given → List (Dispatch ℕ)
+abbrev pub dispatchesOf : JoinInput → List (Dispatch ℕ)
 dispatchesOf g = dispatchesIn (g .asked .dispatches) (g .dispatches)
 
-abbrev pub flagOf : Given → ℕ → ℕ
+abbrev pub flagOf : JoinInput → ℕ → ℕ
 flagOf g = flagFor (g .asked .flags) (g .flags)
 
 abbrev pub zeroIn : State → ℕ
@@ -60,18 +61,18 @@ zeroIn st = role (st .roles) zeroBit .0
 abbrev pub bitsIn : State → Bits ℕ
 bitsIn st = record { zero = zeroIn st; one = role (st .roles) oneBit .0; isZero = λ p. eqb p (zeroIn st) }
 
-abbrev pub kernelIn : Given → Kernel ℕ
+abbrev pub kernelIn : JoinInput → Kernel ℕ
 kernelIn g = record { mode = g .asked .mode .0; none = g .asked .none .0 }
 
 -- the lines of a join
-unfoldable pub programOf : State → Given → Prog ℕ ℕ
-programOf st g =
-    join (bitsIn st) (kernelIn g) (flagOf g) (λ r. registerNode (st .roles) r .0) (dynamicFor (g .dynamics)) (st .counts .names) (edgesOf g) (dispatchesOf g) (g .asked .flow .0)
+unfoldable pub joinProgram : State → JoinInput → Prog ℕ ℕ
+joinProgram st g =
+    joinAddress (bitsIn st) (kernelIn g) (flagOf g) (λ r. registerNode (st .roles) r .0) (dynamicFor (g .dynamics)) (st .counts .names) (edgesOf g) (dispatchesOf g) (g .asked .flow .0)
 
 -- ---- 9: "a count above its storage", of what this call is lent and given; lines and identifiers as at a lowering
 
-abbrev pub countsOut : Lent → Held → Given → Bool
-countsOut l h g =
+abbrev pub joinCountsOut : JoinLent → JoinHeld → JoinInput → Bool
+joinCountsOut l h g =
     let t = h .state .tally in
     ltb mostLines (t .lines) || (ltb mostNid (t .nid) || (ltb (length (l .list) / stride) (t .lines)
     || (ltb (length (l .names)) (h .state .counts .names) || (ltb (length (g .edges) / edgeStride) (g .asked .edges)
@@ -104,7 +105,7 @@ module _ (ws : List ℕ) (n : ℕ) where
   dynamicsOut (suc k) dynamics = bitOut (getD dynamics 0 noFlag) || dynamicsOut k (drop 1 dynamics)
 
   -- "with 15 an edge whose source has no flag, or, used or not, a flag, kernel node, dynamic flag or starting flow that isn't a Bit value line"
-  unfoldable pub flagsOut : Given → Bool
+  unfoldable pub flagsOut : JoinInput → Bool
   flagsOut g =
       edgesUnflagged (flagOf g) (edgesOf g) || (tableOut (g .asked .flags) (g .flags)
       || (bitOut (g .asked .mode .0) || (bitOut (g .asked .none .0) || (dynamicsOut dynamicCount (g .dynamics) || bitOut (g .asked .flow .0)))))
@@ -127,23 +128,23 @@ module _ (ws : List ℕ) (n : ℕ) where
 
 -- ---- 8: what the whole join appends exceeds the list, our area, the sequentials or 1,048,576 lines
 
-unfoldable pub lineCount : State → Given → ℕ
-lineCount st g = length (linesOf (placeAfter (st .tally .lines)) 0 (programOf st g))
+unfoldable pub joinLineCount : State → JoinInput → ℕ
+joinLineCount st g = length (linesOf (placeAfter (st .tally .lines)) 0 (joinProgram st g))
 
-unfoldable pub roomOut : Lent → Held → Given → Bool
-roomOut l h g =
-    let lines = h .state .tally .lines + lineCount (h .state) g in
+unfoldable pub joinRoomOut : JoinLent → JoinHeld → JoinInput → Bool
+joinRoomOut l h g =
+    let lines = h .state .tally .lines + joinLineCount (h .state) g in
     ltb mostLines lines || (ltb (length (l .list) / stride) lines || (ltb (length (l .names)) (h .state .counts .names + length (namesOf (edgesOf g)))
     || ltb (length (l .sequentials)) (h .sequentials + nextsOf (edgesOf g))))
 
-unfoldable pub refusalOf : Lent → Held → Given → ℕ
-refusalOf l h g =
+unfoldable pub joinRefusal : JoinLent → JoinHeld → JoinInput → ℕ
+joinRefusal l h g =
     let ws = l .list in
     let n = h .state .tally .lines in
     first
-    ((countsOut l h g, 9)
+    ((joinCountsOut l h g, 9)
     ∷ (not (rolesFit ws n 0 (h .state .roles)), 13)
     ∷ (flagsOut ws n g, 15)
     ∷ ((edgesOut ws n (edgesOf g) || dispatchesOut ws n (dispatchesOf g)), 16)
-    ∷ (roomOut l h g, 8)
+    ∷ (joinRoomOut l h g, 8)
     ∷ [])

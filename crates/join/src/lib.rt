@@ -3,7 +3,7 @@ use btor2::NodeRef;
 use lowering_refusals::State;
 
 // What passes from call to call: the lowering's state, and how many sequentials are in use.
-pub struct Held {
+pub struct JoinHeld {
     pub state: State,
     pub sequentials: usize,
 }
@@ -22,5 +22,5 @@ pub struct Asked {
 pub struct Joined {
     pub refusal: u64,
     pub flow: NodeRef,
-    pub held: Held,
+    pub held: JoinHeld,
 }

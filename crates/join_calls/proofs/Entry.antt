@@ -15,21 +15,21 @@ use Rattle.btor2_list.specs.declared.Looked.the-variants.{Outside}
 use Rattle.btor2_list.specs.Look.{lookAt}
 use Rattle.roles.specs.Roles.{role, zeroBit}
 use Rattle.roles_check.specs.RolesFit.{valueSort, rolesFit}
-use Rattle.lowering_refusals.specs.Refusal.{mostLines}
+use Rattle.btor2_list.specs.Limits.{mostLines}
 use Rattle.lowering_refusals.proofs.Within.{neither}
 use Rattle.state_words.specs.Words.{stateWords, rolesIn, stateOf, stateIn, withState, countsStored}
-use Rattle.join.specs.declared.Held.{Held}
+use Rattle.join.specs.declared.JoinHeld.{JoinHeld}
 use Rattle.join.specs.Program.{namesOf, nextsOf}
-use Rattle.join.specs.Refusal.{Lent, lent, Given, edgesOf, zeroIn, countsOut, lineCount, roomOut}
-use Rattle.join.specs.Join.{Answer, answer, joining}
+use Rattle.join.specs.Refusal.{JoinLent, joinLent, JoinInput, edgesOf, zeroIn, joinCountsOut, joinLineCount, joinRoomOut}
+use Rattle.join.specs.Join.{JoinAnswer, joinAnswer, joining}
 use Rattle.join.specs.Words.{givenJoin, joinBy, joiningWords}
 use Rattle.join.proofs.Laws.{roles-stay}
 use Rattle.join_calls.specs.Steps.{Room}
-use Rattle.join_calls.specs.Entry.{heldIn, countsOutBy, begun}
+use Rattle.join_calls.specs.Entry.{joinHeldIn, countsOutBy, begun}
 
 -- 9 asks the lengths alone
-pub counts-by : (list ours places : List ℕ) (h : Held) (g : Given) (names sequentials : ℕ) → length ours ≡ names → length places ≡ sequentials
-    → countsOut (lent list ours places) h g ≡ countsOutBy (length list) names sequentials (length (g .edges)) (length (g .dispatches)) (length (g .flags)) h (g .asked)
+pub counts-by : (list ours places : List ℕ) (h : JoinHeld) (g : JoinInput) (names sequentials : ℕ) → length ours ≡ names → length places ≡ sequentials
+    → joinCountsOut (joinLent list ours places) h g ≡ countsOutBy (length list) names sequentials (length (g .edges)) (length (g .dispatches)) (length (g .flags)) h (g .asked)
 counts-by list ours places h g names sequentials e f = rw (e, f)
 
 -- a place that is a value line is below the count of lines
@@ -51,10 +51,10 @@ zero-below ws n [] l e = absurd (omega arith)
 zero-below ws n (r ∷ rs) l e = below n (r .0) 0 _ (ltb (r .0) n) (holds ws (r .0)) refl (and-first _ _ e)
 
 -- what passed 8 fits
-pub counts-fit : (l : Lent) (h : Held) (g : Given) → length (l .names) < 2 ^ 64 → length (l .sequentials) < 2 ^ 64 → roomOut l h g ≡ false → Room (begun h (g .asked)) (edgesOf g)
-unfolding roomOut
+pub counts-fit : (l : JoinLent) (h : JoinHeld) (g : JoinInput) → length (l .names) < 2 ^ 64 → length (l .sequentials) < 2 ^ 64 → joinRoomOut l h g ≡ false → Room (begun h (g .asked)) (edgesOf g)
+unfolding joinRoomOut
 counts-fit l h g a b e =
-    let lines = h .state .tally .lines + lineCount (h .state) g in
+    let lines = h .state .tally .lines + joinLineCount (h .state) g in
     let p = neither (ltb mostLines lines) _ e in
     let q = neither (ltb (length (l .list) / stride) lines) _ (p .1) in
     let r = neither (ltb (length (l .names)) (h .state .counts .names + length (namesOf (edgesOf g)))) _ (q .1) in
@@ -64,10 +64,10 @@ counts-fit l h g a b e =
     }
 
 -- what a join over the state's words leaves there: no role changes
-pub words-put : (l l′ : Lent) (ws : List ℕ) (used : ℕ) (g : Given) (n flow : ℕ) (h : Held) → answer n flow h l′ ≡ joining l (heldIn ws used) g → stateWords ≤ length ws
+pub words-put : (l l′ : JoinLent) (ws : List ℕ) (used : ℕ) (g : JoinInput) (n flow : ℕ) (h : JoinHeld) → joinAnswer n flow h l′ ≡ joining l (joinHeldIn ws used) g → stateWords ≤ length ws
     → givenJoin n flow (h .sequentials) l′ (countsStored ws (h .state .tally) (h .state .counts)) ≡ joiningWords l ws used g
 unfolding joiningWords stateIn
 words-put l l′ ws used g n flow h e long =
-    let roles : h .state .roles ≡ rolesIn ws = ap (λ (a : Answer). a .held .state .roles) e ∙ roles-stay l (heldIn ws used) g in
+    let roles : h .state .roles ≡ rolesIn ws = ap (λ (a : JoinAnswer). a .held .state .roles) e ∙ roles-stay l (joinHeldIn ws used) g in
     rw (le-ltb (length ws) stateWords long)
     (ap (λ places. givenJoin n flow (h .sequentials) l′ (withState ws (stateOf (h .state .tally) (h .state .counts) places))) (sym roles) ∙ ap (joinBy ws) e)

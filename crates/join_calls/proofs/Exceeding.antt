@@ -9,7 +9,7 @@ use borrow.Author.Tests.{lt-ltb, le-ltb, ltb-true, ltb-false}
 use lib.Dec.{ltb}
 use lib.ListN.{length, length-append, getD, drop}
 use lib.Seq.{getD-drop}
-use Rattle.join.specs.Program.{Edge, nameText, namesOf, nextsBy, nextsOf}
+use Rattle.join.specs.Program.{Edge, edgeName, namesOf, nextsBy, nextsOf}
 use Rattle.join.specs.Given.{edgesIn}
 use Rattle.join_calls.specs.declared.room.Left.{Left}
 use Rattle.join_calls.specs.Room.{edgeLines, edgesLines, zeroAfter, zeroAfterAll, dispatchLines, edgeExceeds, leftAfter, exceeding}
@@ -39,7 +39,7 @@ module _ (f : ℕ → Bool) (l : Left) where
   exceeding-next x xs n =
       let own = edgeLines (x .origin) (l .zero) in
       let zero = zeroAfter (x .origin) (l .zero) (f (x .from)) in
-      let text = nameText (x .origin) (x .from) in
+      let text = edgeName (x .origin) (x .from) in
       rw (add-assoc own _ _, length-append text (namesOf xs))
       (three (l .lines) own (edgesLines f zero xs + dispatchLines (zeroAfterAll f zero xs) n) (l .names) (length text) (length (namesOf xs)) (l .sequentials) (nextsBy (x .origin)) (nextsOf xs))
 
@@ -56,7 +56,7 @@ module _ (f : ℕ → Bool) (l : Left) where
 -- an edge that does not exceed has room for each of its parts
 pub record Roomy (l : Left) (origin from : ℕ) : Type 0 where
   pub lines : edgeLines origin (l .zero) ≤ l .lines
-  pub names : length (nameText origin from) ≤ l .names
+  pub names : length (edgeName origin from) ≤ l .names
   pub sequentials : nextsBy origin ≤ l .sequentials
 
 neither : (a b : Bool) → (a || b) ≡ false → (a ≡ false) × (b ≡ false)

@@ -14,15 +14,15 @@ use Rattle.text.proofs.Laws.{sets-append}
 use Rattle.join_calls.specs.declared.lines.Joining.{Joining}
 use Rattle.control_flow.specs.ControlFlow.{Bits, Kernel, controlFlowFromJalr}
 use Rattle.join.specs.Program.{Edge, Dispatch, namesOf, nextsBy, nextsOf, fromEdge, joinEdges, joinDispatches}
-use Rattle.join.specs.Program.{nameText}
+use Rattle.join.specs.Program.{edgeName}
 use Rattle.control_flow.specs.Listed.{appendListed, Lists}
-use Rattle.join_calls.specs.Steps.{storeOf, Joins, Room, RoomOne}
+use Rattle.join_calls.specs.Steps.{joiningStore, Joins, Room, RoomOne}
 use Rattle.control_flow.proofs.Lists.{rest}
 
 module _ (b : Bits ℕ) (k : Kernel ℕ) (flagOf : ℕ → ℕ) where
   -- from the words ws, names and sequentials seq on, the edges xs give what xs₀ give from the start
   pub record Going (ws names seq : List ℕ) (j : Joining) (xs : List (Edge ℕ)) (ws₀ names₀ seq₀ : List ℕ) (j₀ : Joining) (xs₀ : List (Edge ℕ)) : Type 0 where
-    pub left : exec appendListed (storeOf ws seq j) (joinEdges b k flagOf (j .names) xs (j .flow .0)) ≡ exec appendListed (storeOf ws₀ seq₀ j₀) (joinEdges b k flagOf (j₀ .names) xs₀ (j₀ .flow .0))
+    pub left : exec appendListed (joiningStore ws seq j) (joinEdges b k flagOf (j .names) xs (j .flow .0)) ≡ exec appendListed (joiningStore ws₀ seq₀ j₀) (joinEdges b k flagOf (j₀ .names) xs₀ (j₀ .flow .0))
     pub texts : sets names (j .names) (namesOf xs) ≡ sets names₀ (j₀ .names) (namesOf xs₀)
     pub named : j .names + length (namesOf xs) ≡ j₀ .names + length (namesOf xs₀)
     pub counted : j .sequentials + nextsOf xs ≡ j₀ .sequentials + nextsOf xs₀
@@ -34,20 +34,20 @@ module _ (b : Bits ℕ) (k : Kernel ℕ) (flagOf : ℕ → ℕ) where
     pub one-of : {x : Edge ℕ} {xs : List (Edge ℕ)} → Going ws names seq j (x ∷ xs) ws₀ names₀ seq₀ j₀ xs₀ → Room j₀ xs₀ → RoomOne j (x .origin) (x .from)
     unfolding namesOf nextsOf
     one-of {x} {xs} g r = record {
-      names = omega (arith, r .names, g .named, length-append (nameText (x .origin) (x .from)) (namesOf xs));
+      names = omega (arith, r .names, g .named, length-append (edgeName (x .origin) (x .from)) (namesOf xs));
       sequentials = omega (arith, r .sequentials, g .counted);
     }
 
     pub goes : {x : Edge ℕ} {xs : List (Edge ℕ)} {ws′ names′ seq′ : List ℕ} {r : Joining}
-        → Joins ws names seq j (fromEdge b k flagOf (j .names) x (j .flow .0)) (nameText (x .origin) (x .from)) (nextsBy (x .origin)) ws′ names′ seq′ r
+        → Joins ws names seq j (fromEdge b k flagOf (j .names) x (j .flow .0)) (edgeName (x .origin) (x .from)) (nextsBy (x .origin)) ws′ names′ seq′ r
         → Going ws names seq j (x ∷ xs) ws₀ names₀ seq₀ j₀ xs₀ → Going ws′ names′ seq′ r xs ws₀ names₀ seq₀ j₀ xs₀
     unfolding namesOf nextsOf joinEdges
     goes {x} {xs} {ws′} {names′} {seq′} {r} m g = record {
       left =
-          ap (λ n. exec appendListed (storeOf ws′ seq′ r) (joinEdges b k flagOf n xs (r .flow .0))) (m .named)
-          ∙ rest (λ f. joinEdges b k flagOf (j .names + length (nameText (x .origin) (x .from))) xs f) (m .lists) ∙ g .left;
-      texts = rw (m .texts, m .named) (sets-append (nameText (x .origin) (x .from)) (namesOf xs) names (j .names) ∙ g .texts);
-      named = omega (arith, m .named, g .named, length-append (nameText (x .origin) (x .from)) (namesOf xs));
+          ap (λ n. exec appendListed (joiningStore ws′ seq′ r) (joinEdges b k flagOf n xs (r .flow .0))) (m .named)
+          ∙ rest (λ f. joinEdges b k flagOf (j .names + length (edgeName (x .origin) (x .from))) xs f) (m .lists) ∙ g .left;
+      texts = rw (m .texts, m .named) (sets-append (edgeName (x .origin) (x .from)) (namesOf xs) names (j .names) ∙ g .texts);
+      named = omega (arith, m .named, g .named, length-append (edgeName (x .origin) (x .from)) (namesOf xs));
       counted = omega (arith, m .counted, g .counted);
     }
 

@@ -15,12 +15,12 @@ use Rattle.program.specs.Prog.{Prog, done, line, _>>=_}
 use Rattle.program.specs.Lines.{linesOf, resultOf, placeAfter}
 use Rattle.control_flow.specs.ControlFlow.{Bits, Kernel, controlFlowFromAny, controlFlowFromRegular, controlFlowFromBranch, controlFlowFromEcall, controlFlowFromJalr}
 use Rattle.control_flow.specs.FlagName.{nameAt}
-use Rattle.join.specs.Program.{Edge, Dispatch, nameText, namesOf, nextsOf, fromEdge, joinEdges, joinDispatches, join}
+use Rattle.join.specs.Program.{Edge, Dispatch, edgeName, namesOf, nextsOf, fromEdge, joinEdges, joinDispatches, joinAddress}
 use Rattle.join.specs.Given.{dispatchesIn, dynamicFor}
-use Rattle.join.specs.Refusal.{Lent, Given, edgesOf, dispatchesOf, flagOf, zeroIn, bitsIn, kernelIn, programOf, lineCount, roomOut}
-use Rattle.join.specs.declared.Held.{Held}
+use Rattle.join.specs.Refusal.{JoinLent, JoinInput, edgesOf, dispatchesOf, flagOf, zeroIn, bitsIn, kernelIn, joinProgram, joinLineCount, joinRoomOut}
+use Rattle.join.specs.declared.JoinHeld.{JoinHeld}
 use Rattle.lowering_refusals.specs.declared.State.{State}
-use Rattle.lowering_refusals.specs.Refusal.{mostLines}
+use Rattle.btor2_list.specs.Limits.{mostLines}
 use Rattle.roles.specs.Roles.{registerNode}
 use Rattle.btor2_list.specs.Record.{stride}
 use Rattle.join_calls.specs.Room.{edgeLines, edgesLines, zeroAfter, zeroAfterAll, dispatchLines, exceeding}
@@ -119,7 +119,7 @@ module _ (n z : ℕ) (below : z < n) (b : Bits ℕ) (is : (p : ℕ) → b .isZer
     unfolding joinEdges edgesLines zeroAfterAll
     from-edges [] k at flow = done-grows n z k flow
     from-edges (x ∷ xs) k at flow =
-        after n z (from-edge k at x flow) _ (λ j r e. rw (← e) (from-edges xs j (at + length (nameText (x .origin) (x .from))) r))
+        after n z (from-edge k at x flow) _ (λ j r e. rw (← e) (from-edges xs j (at + length (edgeName (x .origin) (x .from))) r))
 
     module _ (registers dynamics : ℕ → ℕ) where
       from-dispatches : (ds : List (Dispatch ℕ)) (k flow : ℕ) → length (linesOf (placeAfter n) k (joinDispatches b registers dynamics ds flow)) ≡ dispatchLines (eqb flow z) (length ds)
@@ -130,8 +130,8 @@ module _ (n z : ℕ) (below : z < n) (b : Bits ℕ) (is : (p : ℕ) → b .isZer
           ∙ dispatch-more (eqb flow z) (length ds)
 
       pub joined : (es : List (Edge ℕ)) (ds : List (Dispatch ℕ)) (k at flow : ℕ)
-          → length (linesOf (placeAfter n) k (join b kernel flagOf registers dynamics at es ds flow)) ≡ edgesLines clear (eqb flow z) es + dispatchLines (zeroAfterAll clear (eqb flow z) es) (length ds)
-      unfolding join
+          → length (linesOf (placeAfter n) k (joinAddress b kernel flagOf registers dynamics at es ds flow)) ≡ edgesLines clear (eqb flow z) es + dispatchLines (zeroAfterAll clear (eqb flow z) es) (length ds)
+      unfolding joinAddress
       joined es ds k at flow =
           count-after n z (from-edges es k at flow) _ (λ j r e. from-dispatches ds j r ∙ ap (λ t. dispatchLines t (length ds)) e)
 
@@ -158,18 +158,18 @@ room-left : (a b t c p q r u v w : ℕ) → t ≤ a → t ≤ b → q ≤ p → 
 room-left a b t c p q r u v w ha hb hp hu =
     rw (ltb-sub (min a b) t c (omega arith), ltb-min a b (t + c), ltb-sub p q r hp, ltb-sub u v w hu) (or-assoc (ltb b (t + c)) (ltb a (t + c)) (ltb p (q + r) || ltb u (v + w)))
 
-counted : (st : State) (g : Given) → zeroIn st < st .tally .lines
-    → lineCount st g ≡ edgesLines (λ a. eqb (flagOf g a) (zeroIn st)) (eqb (g .asked .flow .0) (zeroIn st)) (edgesOf g)
+counted : (st : State) (g : JoinInput) → zeroIn st < st .tally .lines
+    → joinLineCount st g ≡ edgesLines (λ a. eqb (flagOf g a) (zeroIn st)) (eqb (g .asked .flow .0) (zeroIn st)) (edgesOf g)
     + dispatchLines (zeroAfterAll (λ a. eqb (flagOf g a) (zeroIn st)) (eqb (g .asked .flow .0) (zeroIn st)) (edgesOf g)) (g .asked .dispatches)
-unfolding lineCount programOf
+unfolding joinLineCount joinProgram
 counted st g below =
     rw (dispatches-length (g .asked .dispatches) (g .dispatches)) at
     (joined (st .tally .lines) (zeroIn st) below (bitsIn st) (λ p. refl) (kernelIn g) (flagOf g) (λ r. registerNode (st .roles) r .0) (dynamicFor (g .dynamics)) (edgesOf g) (dispatchesOf g) 0 (st .counts .names) (g .asked .flow .0))
 
-pub exceeds-room : (l : Lent) (h : Held) (g : Given) → zeroIn (h .state) < h .state .tally .lines → h .state .tally .lines ≤ mostLines → h .state .tally .lines ≤ length (l .list) / stride
+pub exceeds-room : (l : JoinLent) (h : JoinHeld) (g : JoinInput) → zeroIn (h .state) < h .state .tally .lines → h .state .tally .lines ≤ mostLines → h .state .tally .lines ≤ length (l .list) / stride
     → h .state .counts .names ≤ length (l .names) → h .sequentials ≤ length (l .sequentials)
-    → exceeding (λ a. eqb (flagOf g a) (zeroIn (h .state))) (leftOf (length (l .list) / stride) (length (l .names)) (length (l .sequentials)) h (g .asked)) (edgesOf g) (g .asked .dispatches) ≡ roomOut l h g
-unfolding exceeding roomOut
+    → exceeding (λ a. eqb (flagOf g a) (zeroIn (h .state))) (leftOf (length (l .list) / stride) (length (l .names)) (length (l .sequentials)) h (g .asked)) (edgesOf g) (g .asked .dispatches) ≡ joinRoomOut l h g
+unfolding exceeding joinRoomOut
 exceeds-room l h g below most room names sequentials =
     rw (counted (h .state) g below)
     (room-left (length (l .list) / stride) mostLines (h .state .tally .lines) _ (length (l .names)) (h .state .counts .names) (length (namesOf (edgesOf g))) (length (l .sequentials)) (h .sequentials) (nextsOf (edgesOf g)) room most names sequentials)

@@ -12,11 +12,11 @@ use Rattle.control_flow.specs.ControlFlow.{Bits}
 use Rattle.control_flow.specs.Listed.{Listed, appendListed, Lists}
 use Rattle.control_flow.proofs.Lists.{Quiet, none, on, lists, quiet-jalr, quiet-bind}
 use Rattle.join.specs.declared.Asked.{Asked}
-use Rattle.join.specs.declared.Held.{Held}
-use Rattle.join.specs.Program.{Dispatch, namesOf, nextsOf, joinEdges, joinDispatches, join}
+use Rattle.join.specs.declared.JoinHeld.{JoinHeld}
+use Rattle.join.specs.Program.{Dispatch, namesOf, nextsOf, joinEdges, joinDispatches, joinAddress}
 use Rattle.join.specs.Given.{dynamicFor}
-use Rattle.join.specs.Refusal.{Lent, lent, Given, edgesOf, dispatchesOf, flagOf, bitsIn, kernelIn, programOf}
-use Rattle.join.specs.Join.{answer, settled, storeOf}
+use Rattle.join.specs.Refusal.{JoinLent, joinLent, JoinInput, edgesOf, dispatchesOf, flagOf, bitsIn, kernelIn, joinProgram}
+use Rattle.join.specs.Join.{joinAnswer, joinSettled, joinStore}
 use Rattle.join_calls.specs.declared.lines.Joining.{Joining}
 use Rattle.join_calls.specs.Steps.{Joins}
 use Rattle.join_calls.specs.Entry.{begun, heldAfter}
@@ -27,13 +27,13 @@ quiet-dispatches b registers dynamics [] flow = none
 quiet-dispatches b registers dynamics (x ∷ ds) flow =
     quiet-bind (quiet-jalr b (registers (x .register)) (dynamics (x .register)) (x .address) flow) (λ f. quiet-dispatches b registers dynamics ds f)
 
-module _ (l : Lent) (h : Held) (g : Given) {ws names seq ws′ : List ℕ} {j : Joining} {m : Made} where
+module _ (l : JoinLent) (h : JoinHeld) (g : JoinInput) {ws names seq ws′ : List ℕ} {j : Joining} {m : Made} where
   -- edges that leave ws, names and seq, then dispatches that leave ws′
   pub settles : Joins (l .list) (l .names) (l .sequentials) (begun h (g .asked)) (joinEdges (bitsIn (h .state)) (kernelIn g) (flagOf g) (h .state .counts .names) (edgesOf g) (g .asked .flow .0)) (namesOf (edgesOf g)) (nextsOf (edgesOf g)) ws names seq j
       → Gives ws (j .tally) (joinDispatches (bitsIn (h .state)) (λ r. registerNode (h .state .roles) r .0) (dynamicFor (g .dynamics)) (dispatchesOf g) (j .flow .0)) ws′ (m .tally) (m .node .0)
-      → answer 0 (m .node .0) (heldAfter h (m .tally) (j .names) (j .sequentials)) (lent ws′ names seq)
-      ≡ settled l h g (exec appendListed (storeOf l h) (programOf (h .state) g))
-  unfolding settled programOf join
+      → joinAnswer 0 (m .node .0) (heldAfter h (m .tally) (j .names) (j .sequentials)) (joinLent ws′ names seq)
+      ≡ joinSettled l h g (exec appendListed (joinStore l h) (joinProgram (h .state) g))
+  unfolding joinSettled joinProgram joinAddress
   settles e d =
       let all = on _ (e .lists) (lists (quiet-dispatches (bitsIn (h .state)) (λ r. registerNode (h .state .roles) r .0) (dynamicFor (g .dynamics)) (dispatchesOf g) (j .flow .0)) d) in
-      rw (e .texts, e .named) (ap (λ (r : Run Listed ℕ). settled l h g r) (all .is))
+      rw (e .texts, e .named) (ap (λ (r : Run Listed ℕ). joinSettled l h g r) (all .is))

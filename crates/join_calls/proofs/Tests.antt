@@ -8,7 +8,7 @@ use lib.ListN.{length, getD, drop}
 use lib.Seq.{drop-cons, drop-drop, getD-drop}
 use Rattle.join.specs.Given.{edgesIn, dispatchesIn, noFlag}
 use Rattle.join.specs.Refusal.{bitOut, edgesUnflagged, tableOut, dynamicsOut, edgeOut, edgesOut, dispatchOut, dispatchesOut}
-use Rattle.join_calls.specs.Steps.{edge, dispatch}
+use Rattle.join_calls.specs.Steps.{edgeRecord, dispatchRecord}
 use Rattle.join_calls.proofs.Steps.{edges-next, edges-none, dispatches-next, dispatches-none}
 
 -- a test that holds is the answer, and one that does not leaves the rest
@@ -59,7 +59,7 @@ module _ (ws : List ℕ) (n : ℕ) where
   dynamics-none m k ds h = let none : m - k ≡ 0 = omega arith in rw none
 
   pub edges-out-next : (m k : ℕ) (es : List ℕ) → k < m
-      → edgesOut ws n (edgesIn (m - k) (drop (k * 4) es)) ≡ (edgeOut ws n (edge 0 (getD es (k * 4 + 2) 0) (getD es (k * 4 + 3) 0)) || edgesOut ws n (edgesIn (m - (k + 1)) (drop ((k + 1) * 4) es)))
+      → edgesOut ws n (edgesIn (m - k) (drop (k * 4) es)) ≡ (edgeOut ws n (edgeRecord 0 (getD es (k * 4 + 2) 0) (getD es (k * 4 + 3) 0)) || edgesOut ws n (edgesIn (m - (k + 1)) (drop ((k + 1) * 4) es)))
   unfolding edgesOut
   edges-out-next m k es h = rw (edges-next m k es h, getD-drop (k * 4) es 2 0, getD-drop (k * 4) es 3 0)
 
@@ -68,7 +68,7 @@ module _ (ws : List ℕ) (n : ℕ) where
   edges-out-none m k es h = rw (edges-none m k es h)
 
   pub dispatches-out-next : (m k : ℕ) (ds : List ℕ) → k < m
-      → dispatchesOut ws n (dispatchesIn (m - k) (drop (k * 2) ds)) ≡ (dispatchOut ws n (dispatch (getD ds (k * 2) 0) (getD ds (k * 2 + 1) 0)) || dispatchesOut ws n (dispatchesIn (m - (k + 1)) (drop ((k + 1) * 2) ds)))
+      → dispatchesOut ws n (dispatchesIn (m - k) (drop (k * 2) ds)) ≡ (dispatchOut ws n (dispatchRecord (getD ds (k * 2) 0) (getD ds (k * 2 + 1) 0)) || dispatchesOut ws n (dispatchesIn (m - (k + 1)) (drop ((k + 1) * 2) ds)))
   unfolding dispatchesOut
   dispatches-out-next m k ds h =
       let here : k * 2 + 0 ≡ k * 2 = omega arith in

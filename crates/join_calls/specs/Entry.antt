@@ -8,24 +8,24 @@ use Rattle.btor2_list.specs.Record.{stride}
 use Rattle.builder.specs.declared.Tally.{Tally}
 use Rattle.edges.specs.Edges.{edgeStride}
 use Rattle.edges.specs.Records.{dispatchStride}
-use Rattle.lowering_refusals.specs.Refusal.{mostLines, mostNid}
+use Rattle.btor2_list.specs.Limits.{mostLines, mostNid}
 use Rattle.control_flow.specs.declared.Kernel.{Kernel}
 use Rattle.state_words.specs.Words.{stateIn}
 use Rattle.join.specs.declared.Asked.{Asked}
-use Rattle.join.specs.declared.Held.{Held}
+use Rattle.join.specs.declared.JoinHeld.{JoinHeld}
 use Rattle.join.specs.Given.{flagStride}
-use Rattle.join.specs.Refusal.{Given, edgesOf, zeroIn}
+use Rattle.join.specs.Refusal.{JoinInput, edgesOf, zeroIn}
 use Rattle.join.specs.Join.{withNames}
 use Rattle.join_calls.specs.declared.lines.Joining.{Joining}
 use Rattle.join_calls.specs.declared.room.Left.{Left}
 use Rattle.join_calls.specs.Steps.{Room}
 
 -- what a state's words and the count of sequentials say is held
-abbrev pub heldIn : List ℕ → ℕ → Held
-heldIn ws used = record { state = stateIn ws; sequentials = used }
+abbrev pub joinHeldIn : List ℕ → ℕ → JoinHeld
+joinHeldIn ws used = record { state = stateIn ws; sequentials = used }
 
 -- 9, by the lengths of what is lent and given
-abbrev pub countsOutBy : ℕ → ℕ → ℕ → ℕ → ℕ → ℕ → Held → Asked → Bool
+abbrev pub countsOutBy : ℕ → ℕ → ℕ → ℕ → ℕ → ℕ → JoinHeld → Asked → Bool
 countsOutBy list names sequentials edges dispatches flags h a =
     let t = h .state .tally in
     ltb mostLines (t .lines) || (ltb mostNid (t .nid) || (ltb (list / stride) (t .lines)
@@ -34,14 +34,14 @@ countsOutBy list names sequentials edges dispatches flags h a =
     || ltb sequentials (h .sequentials)))))))
 
 -- what is in use is within storage that holds so many lines, bytes and sequentials
-pub record Within (room bytes places : ℕ) (h : Held) : Type 0 where
+pub record Within (room bytes places : ℕ) (h : JoinHeld) : Type 0 where
   pub most : h .state .tally .lines ≤ mostLines
   pub lines : h .state .tally .lines ≤ room
   pub names : h .state .counts .names ≤ bytes
   pub sequentials : h .sequentials ≤ places
 
 -- what is left of it
-abbrev pub leftOf : ℕ → ℕ → ℕ → Held → Asked → Left
+abbrev pub leftOf : ℕ → ℕ → ℕ → JoinHeld → Asked → Left
 leftOf lines names sequentials h a = record {
   lines = min lines mostLines - h .state .tally .lines;
   names = names - h .state .counts .names;
@@ -53,18 +53,18 @@ abbrev pub kernelBy : Asked → Kernel
 kernelBy a = record { mode = a .mode; none = a .none }
 
 -- where a join begins
-abbrev pub begun : Held → Asked → Joining
+abbrev pub begun : JoinHeld → Asked → Joining
 begun h a = record { tally = h .state .tally; sequentials = h .sequentials; names = h .state .counts .names; flow = a .flow }
 
 -- what passes on: no role changes, and of the counts that of our names alone
-abbrev pub heldAfter : Held → Tally → ℕ → ℕ → Held
+abbrev pub heldAfter : JoinHeld → Tally → ℕ → ℕ → JoinHeld
 heldAfter h t names sequentials = record {
   state = record { tally = t; counts = withNames (h .state .counts) names; roles = h .state .roles };
   sequentials = sequentials;
 }
 
 -- what an accepted call rests on: the given counts are within their storage, and the counts after it fit
-pub record Ready (h : Held) (g : Given) : Type 0 where
+pub record ReadyToJoin (h : JoinHeld) (g : JoinInput) : Type 0 where
   pub edges : g .asked .edges * edgeStride ≤ length (g .edges)
   pub dispatches : g .asked .dispatches * dispatchStride ≤ length (g .dispatches)
   pub flags : g .asked .flags * flagStride ≤ length (g .flags)

@@ -5,7 +5,7 @@ use mathlib.Core.List.{List, [], _∷_}
 use lib.Dec.{eqb, ltb}
 use lib.ListN.{length}
 use Rattle.edges.specs.Edges.{branchOrigin, syscallOrigin}
-use Rattle.join.specs.Program.{Edge, nameText, namesOf, nextsBy, nextsOf}
+use Rattle.join.specs.Program.{Edge, edgeName, namesOf, nextsBy, nextsOf}
 use Rattle.join_calls.specs.declared.room.Left.{Left}
 
 -- the lines of an edge before its ite, and with it: there is none where the flow is the zero bit's own place
@@ -37,12 +37,12 @@ dispatchLines zero n = cond (eqb n 0) 0 (cond zero (n * 3 - 1) (n * 3))
 
 abbrev pub edgeExceeds : Left → ℕ → ℕ → Bool
 edgeExceeds l origin from =
-    ltb (l .lines) (edgeLines origin (l .zero)) || (ltb (l .names) (length (nameText origin from)) || ltb (l .sequentials) (nextsBy origin))
+    ltb (l .lines) (edgeLines origin (l .zero)) || (ltb (l .names) (length (edgeName origin from)) || ltb (l .sequentials) (nextsBy origin))
 
 abbrev pub leftAfter : Left → ℕ → ℕ → Bool → Left
 leftAfter l origin from flagIsZero = record {
   lines = l .lines - edgeLines origin (l .zero);
-  names = l .names - length (nameText origin from);
+  names = l .names - length (edgeName origin from);
   sequentials = l .sequentials - nextsBy origin;
   zero = zeroAfter origin (l .zero) flagIsZero;
 }

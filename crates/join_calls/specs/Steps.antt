@@ -7,22 +7,22 @@ use lib.Seq.{sets}
 use Rattle.program.specs.Prog.{Prog}
 use Rattle.builder.specs.Append.{at}
 use Rattle.control_flow.specs.Listed.{Listed, listed, Lists}
-use Rattle.join.specs.Program.{Edge, Dispatch, nameText, namesOf, nextsBy, nextsOf}
+use Rattle.join.specs.Program.{Edge, Dispatch, edgeName, namesOf, nextsBy, nextsOf}
 use Rattle.join_calls.specs.declared.lines.Joining.{Joining}
 
 -- the lent words and sequentials, with the counts of them
-abbrev pub storeOf : List ℕ → List ℕ → Joining → Listed
-storeOf ws seq j = listed (at ws (j .tally)) seq (j .sequentials)
+abbrev pub joiningStore : List ℕ → List ℕ → Joining → Listed
+joiningStore ws seq j = listed (at ws (j .tally)) seq (j .sequentials)
 
-abbrev pub edge : ℕ → ℕ → ℕ → Edge ℕ
-edge from origin condition = record { from = from; origin = origin; condition = condition }
+abbrev pub edgeRecord : ℕ → ℕ → ℕ → Edge ℕ
+edgeRecord from origin condition = record { from = from; origin = origin; condition = condition }
 
-abbrev pub dispatch : ℕ → ℕ → Dispatch ℕ
-dispatch register address = record { register = register; address = address }
+abbrev pub dispatchRecord : ℕ → ℕ → Dispatch ℕ
+dispatchRecord register address = record { register = register; address = address }
 
 -- by its program p, with its names' text and so many Nexts
 pub record Joins (ws names seq : List ℕ) (j : Joining) (p : Prog ℕ ℕ) (text : List ℕ) (nexts : ℕ) (ws′ names′ seq′ : List ℕ) (r : Joining) : Type 0 where
-  pub lists : Lists (storeOf ws seq j) p (storeOf ws′ seq′ r) (r .flow .0)
+  pub lists : Lists (joiningStore ws seq j) p (joiningStore ws′ seq′ r) (r .flow .0)
   pub texts : names′ ≡ sets names (j .names) text
   pub named : r .names ≡ j .names + length text
   pub counted : r .sequentials ≡ j .sequentials + nexts
@@ -33,5 +33,5 @@ pub record Room (j : Joining) (xs : List (Edge ℕ)) : Type 0 where
   pub sequentials : j .sequentials + nextsOf xs < 2 ^ 64
 
 pub record RoomOne (j : Joining) (origin from : ℕ) : Type 0 where
-  pub names : j .names + length (nameText origin from) < 2 ^ 64
+  pub names : j .names + length (edgeName origin from) < 2 ^ 64
   pub sequentials : j .sequentials + nextsBy origin < 2 ^ 64

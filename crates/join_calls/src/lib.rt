@@ -4,6 +4,8 @@ mod refusals;
 mod room;
 
 use btor2::NodeRef;
+use btor2_list::MOST_LINES;
+use btor2_list::MOST_NID;
 use btor2_list::STRIDE;
 use builder::Made;
 use builder::Tally;
@@ -12,15 +14,14 @@ use control_flow::Kernel;
 use dispatches::DISPATCH;
 use edges::EDGE;
 use join::Asked;
-use join::Held;
+use join::JoinHeld;
 use join::Joined;
 use lines::FLAG;
 use lines::Joining;
 use lines::join_dispatches;
 use lines::join_edges;
+use lowering_refusals::BAD_COUNT;
 use lowering_refusals::Counts;
-use lowering_refusals::MOST_LINES;
-use lowering_refusals::MOST_NID;
 use lowering_refusals::State;
 use refusals::dispatches_out;
 use refusals::edges_out;
@@ -35,15 +36,12 @@ ghost use lib.ListN.{length};
 ghost use Rattle.control_flow.specs.Listed.{appendListed};
 ghost use Rattle.program.specs.Prog.{exec};
 ghost use Rattle.roles.specs.Roles.{role, zeroBit, roleCount};
-ghost use Rattle.lowering_refusals.specs.Refusal.{mostLines};
-ghost use Rattle.join.specs.Refusal.{lent, given, programOf, refusalOf};
-ghost use Rattle.join.specs.Join.{answer, storeOf, settled, joining};
+ghost use Rattle.btor2_list.specs.Limits.{mostLines};
+ghost use Rattle.join.specs.Refusal.{joinLent, joinInput, joinProgram, joinRefusal};
+ghost use Rattle.join.specs.Join.{joinAnswer, joinStore, joinSettled, joining};
 ghost use Rattle.join.specs.Words.{givenJoin, joiningWords};
 ghost use Rattle.state_words.specs.Words.{countsStored};
-ghost use Rattle.join_calls.specs.Entry.{heldIn, countsOutBy, Within, leftOf, kernelBy, begun, heldAfter, Ready};
-
-// A count above its storage.
-const BAD_COUNT: u64 = 9;
+ghost use Rattle.join_calls.specs.Entry.{joinHeldIn, countsOutBy, Within, leftOf, kernelBy, begun, heldAfter, ReadyToJoin};
 
 // Joins one address's edges, then its dispatches, into a flow. What is held says how much of the list, our name area and the sequentials is in
 // use, the next identifier and the roles. An edge has four words, a dispatch and a flag two each; the dynamic flags are those of x1 to x31. A
@@ -57,9 +55,9 @@ pub fn join(
     flags: &[u64],
     dynamics: &[u64; 31],
     a: Asked,
-    h: Held,
+    h: JoinHeld,
 ) -> Joined
-    ensures { λ r. ⌜ answer (r .refusal) (r .flow .0) (r .held) (lent (now (list .exit)) (now (names .exit)) (now (sequentials .exit))) ≡ joining (lent (now (list .entry)) (now (names .entry)) (now (sequentials .entry))) h (given (now (edges .entry)) (now (dispatches .entry)) (now (flags .entry)) (now (dynamics .entry)) a) ⌝ }
+    ensures { λ r. ⌜ joinAnswer (r .refusal) (r .flow .0) (r .held) (joinLent (now (list .exit)) (now (names .exit)) (now (sequentials .exit))) ≡ joining (joinLent (now (list .entry)) (now (names .entry)) (now (sequentials .entry))) h (joinInput (now (edges .entry)) (now (dispatches .entry)) (now (flags .entry)) (now (dynamics .entry)) a) ⌝ }
 {
     let refusal = refuse(
         list,
@@ -113,7 +111,7 @@ pub fn join_words(
     a: Asked,
     used: usize,
 ) -> JoinedWords
-    ensures { λ r. ⌜ givenJoin (r .refusal) (r .flow .0) (r .sequentials) (lent (now (list .exit)) (now (names .exit)) (now (sequentials .exit))) (now (state .exit)) ≡ joiningWords (lent (now (list .entry)) (now (names .entry)) (now (sequentials .entry))) (now (state .entry)) used (given (now (edges .entry)) (now (dispatches .entry)) (now (flags .entry)) (now (dynamics .entry)) a) ⌝ }
+    ensures { λ r. ⌜ givenJoin (r .refusal) (r .flow .0) (r .sequentials) (joinLent (now (list .exit)) (now (names .exit)) (now (sequentials .exit))) (now (state .exit)) ≡ joiningWords (joinLent (now (list .entry)) (now (names .entry)) (now (sequentials .entry))) (now (state .entry)) used (joinInput (now (edges .entry)) (now (dispatches .entry)) (now (flags .entry)) (now (dynamics .entry)) a) ⌝ }
 {
     if state.len() < STATE_WORDS {
         let flow = a.flow;
@@ -146,18 +144,18 @@ pub fn join_words(
 }
 
 // What the state's words and the count of sequentials say is held.
-fn held_in(words: &[u64], used: usize) -> Held
-    ensures { λ r. ⌜ r ≡ heldIn (now (words .entry)) used ⌝ }
+fn held_in(words: &[u64], used: usize) -> JoinHeld
+    ensures { λ r. ⌜ r ≡ joinHeldIn (now (words .entry)) used ⌝ }
 {
     let state = state_words::state_in(words);
-    Held {
+    JoinHeld {
         state,
         sequentials: used,
     }
 }
 
 // Puts the tally and the counts; a join changes no role.
-fn put_held(words: &mut [u64], h: Held)
+fn put_held(words: &mut [u64], h: JoinHeld)
     ensures { λ _. ⌜ now (words .exit) ≡ countsStored (now (words .entry)) (h .state .tally) (h .state .counts) ⌝ }
 {
     let state = h.state;
@@ -176,9 +174,9 @@ fn refuse(
     flags: &[u64],
     dynamics: &[u64; 31],
     a: Asked,
-    h: Held,
+    h: JoinHeld,
 ) -> u64
-    ensures { λ r. ⌜ ((ours places : List ℕ) → length ours ≡ names → length places ≡ sequentials → r ≡ refusalOf (lent (now (list .entry)) ours places) h (given (now (edges .entry)) (now (dispatches .entry)) (now (flags .entry)) (now (dynamics .entry)) a)) ⌝ }
+    ensures { λ r. ⌜ ((ours places : List ℕ) → length ours ≡ names → length places ≡ sequentials → r ≡ joinRefusal (joinLent (now (list .entry)) ours places) h (joinInput (now (edges .entry)) (now (dispatches .entry)) (now (flags .entry)) (now (dynamics .entry)) a)) ⌝ }
 {
     if counts_out(
         list.len(),
@@ -243,7 +241,7 @@ fn counts_out(
     dispatches: usize,
     flags: usize,
     a: Asked,
-    h: Held,
+    h: JoinHeld,
 ) -> bool
     ensures { λ r. ⌜ r ≡ countsOutBy list names sequentials edges dispatches flags h a ⌝ }
 {
@@ -260,7 +258,7 @@ fn counts_out(
 }
 
 // What room is left of storage that holds so many lines, bytes and sequentials.
-fn room_left(lines: usize, names: usize, sequentials: usize, a: Asked, h: Held) -> Left
+fn room_left(lines: usize, names: usize, sequentials: usize, a: Asked, h: JoinHeld) -> Left
     requires { ⌜ Within lines names sequentials h ⌝ }
     ensures { λ r. ⌜ r ≡ leftOf lines names sequentials h a ⌝ }
 {
@@ -298,10 +296,10 @@ fn accept(
     flags: &[u64],
     dynamics: &[u64; 31],
     a: Asked,
-    h: Held,
+    h: JoinHeld,
 ) -> Joined
-    requires { ⌜ Ready h (given (now edges) (now dispatches) (now flags) (now dynamics) a) ⌝ }
-    ensures { λ r. ⌜ answer (r .refusal) (r .flow .0) (r .held) (lent (now (list .exit)) (now (names .exit)) (now (sequentials .exit))) ≡ settled (lent (now (list .entry)) (now (names .entry)) (now (sequentials .entry))) h (given (now (edges .entry)) (now (dispatches .entry)) (now (flags .entry)) (now (dynamics .entry)) a) (exec appendListed (storeOf (lent (now (list .entry)) (now (names .entry)) (now (sequentials .entry))) h) (programOf (h .state) (given (now (edges .entry)) (now (dispatches .entry)) (now (flags .entry)) (now (dynamics .entry)) a))) ⌝ }
+    requires { ⌜ ReadyToJoin h (joinInput (now edges) (now dispatches) (now flags) (now dynamics) a) ⌝ }
+    ensures { λ r. ⌜ joinAnswer (r .refusal) (r .flow .0) (r .held) (joinLent (now (list .exit)) (now (names .exit)) (now (sequentials .exit))) ≡ joinSettled (joinLent (now (list .entry)) (now (names .entry)) (now (sequentials .entry))) h (joinInput (now (edges .entry)) (now (dispatches .entry)) (now (flags .entry)) (now (dynamics .entry)) a) (exec appendListed (joinStore (joinLent (now (list .entry)) (now (names .entry)) (now (sequentials .entry))) h) (joinProgram (h .state) (joinInput (now (edges .entry)) (now (dispatches .entry)) (now (flags .entry)) (now (dynamics .entry)) a))) ⌝ }
 {
     let state = h.state;
     let places = state.roles;
@@ -354,7 +352,7 @@ fn kernel_of(a: Asked) -> Kernel
 }
 
 // Where a join begins.
-fn begin(a: Asked, h: Held) -> Joining
+fn begin(a: Asked, h: JoinHeld) -> Joining
     ensures { λ r. ⌜ r ≡ begun h a ⌝ }
 {
     let state = h.state;
@@ -370,13 +368,13 @@ fn begin(a: Asked, h: Held) -> Joining
 }
 
 // What passes on: no role changes, and of the counts that of our names alone.
-fn held_after(h: Held, tally: Tally, names: usize, sequentials: usize) -> Held
+fn held_after(h: JoinHeld, tally: Tally, names: usize, sequentials: usize) -> JoinHeld
     ensures { λ r. ⌜ r ≡ heldAfter h tally names sequentials ⌝ }
 {
     let state = h.state;
     let c = state.counts;
     let roles = state.roles;
-    Held {
+    JoinHeld {
         state: State {
             tally,
             counts: Counts {

@@ -11,6 +11,7 @@ use control_flow::control_flow_from_jalr;
 use control_flow::control_flow_from_regular;
 use control_flow::flag_name_len;
 use control_flow::put_flag_name;
+use riscv::LAST_REGISTER;
 ghost use mathlib.Core.Path.{_≡_};
 ghost use Prim.Native.Nat.{_+_, _*_, _≤_};
 ghost use lib.ListN.{length, drop};
@@ -20,10 +21,10 @@ ghost use Rattle.edges.specs.Records.{dispatchStride};
 ghost use Rattle.roles.specs.Roles.{registerNode};
 ghost use Rattle.control_flow.specs.FlagName.{nameAt};
 ghost use Rattle.control_flow.specs.ControlFlow.{controlFlowFromEcall, controlFlowFromJalr};
-ghost use Rattle.control_flow.specs.Code.{bitsOf, kernelOf};
-ghost use Rattle.join.specs.Program.{nameText, namesOf, nextsBy, nextsOf, fromEdge, joinEdges, joinDispatches};
+ghost use Rattle.control_flow.specs.Code.{bitPlaces, kernelPlaces};
+ghost use Rattle.join.specs.Program.{edgeName, namesOf, nextsBy, nextsOf, fromEdge, joinEdges, joinDispatches};
 ghost use Rattle.join.specs.Given.{edgeIn, edgesIn, dispatchIn, dispatchesIn, flagStride, flagFor, dynamicFor};
-ghost use Rattle.join_calls.specs.Steps.{edge, Joins, Room, RoomOne};
+ghost use Rattle.join_calls.specs.Steps.{edgeRecord, Joins, Room, RoomOne};
 
 // The words of an entry of the table of flags: address, place.
 pub(crate) const FLAG: usize = 2;
@@ -71,7 +72,7 @@ fn from_edge(
     condition: NodeRef,
 ) -> Joining
     requires { ⌜ RoomOne j origin from ⌝ }
-    ensures { λ r. ⌜ Joins (now (list .entry)) (now (names .entry)) (now (sequentials .entry)) j (fromEdge (bitsOf b) (kernelOf k) (λ _. flag .0) (j .names) (edge from origin (condition .0)) (j .flow .0)) (nameText origin from) (nextsBy origin) (now (list .exit)) (now (names .exit)) (now (sequentials .exit)) r ⌝ }
+    ensures { λ r. ⌜ Joins (now (list .entry)) (now (names .entry)) (now (sequentials .entry)) j (fromEdge (bitPlaces b) (kernelPlaces k) (λ _. flag .0) (j .names) (edgeRecord from origin (condition .0)) (j .flow .0)) (edgeName origin from) (nextsBy origin) (now (list .exit)) (now (names .exit)) (now (sequentials .exit)) r ⌝ }
 {
     let t = j.tally;
     let flow = j.flow;
@@ -111,7 +112,7 @@ fn from_syscall(
     from: u64,
 ) -> Joining
     requires { ⌜ RoomOne j syscallOrigin from ⌝ }
-    ensures { λ r. ⌜ Joins (now (list .entry)) (now (names .entry)) (now (sequentials .entry)) j (controlFlowFromEcall (bitsOf b) (kernelOf k) (flag .0) (nameAt (j .names) from) (j .flow .0)) (nameText syscallOrigin from) 1 (now (list .exit)) (now (names .exit)) (now (sequentials .exit)) r ⌝ }
+    ensures { λ r. ⌜ Joins (now (list .entry)) (now (names .entry)) (now (sequentials .entry)) j (controlFlowFromEcall (bitPlaces b) (kernelPlaces k) (flag .0) (nameAt (j .names) from) (j .flow .0)) (edgeName syscallOrigin from) 1 (now (list .exit)) (now (names .exit)) (now (sequentials .exit)) r ⌝ }
 {
     let t = j.tally;
     let count = j.sequentials;
@@ -149,7 +150,7 @@ fn join_edge(
     j: Joining,
 ) -> Joining
     requires { ⌜ (done * edgeStride + edgeStride ≤ length (now edges)) × (count * flagStride ≤ length (now flags)) × RoomOne j (edgeIn (drop (done * edgeStride) (now edges)) .origin) (edgeIn (drop (done * edgeStride) (now edges)) .from) ⌝ }
-    ensures { λ r. ⌜ Joins (now (list .entry)) (now (names .entry)) (now (sequentials .entry)) j (fromEdge (bitsOf b) (kernelOf k) (flagFor count (now (flags .entry))) (j .names) (edgeIn (drop (done * edgeStride) (now (edges .entry)))) (j .flow .0)) (nameText (edgeIn (drop (done * edgeStride) (now (edges .entry))) .origin) (edgeIn (drop (done * edgeStride) (now (edges .entry))) .from)) (nextsBy (edgeIn (drop (done * edgeStride) (now (edges .entry))) .origin)) (now (list .exit)) (now (names .exit)) (now (sequentials .exit)) r ⌝ }
+    ensures { λ r. ⌜ Joins (now (list .entry)) (now (names .entry)) (now (sequentials .entry)) j (fromEdge (bitPlaces b) (kernelPlaces k) (flagFor count (now (flags .entry))) (j .names) (edgeIn (drop (done * edgeStride) (now (edges .entry)))) (j .flow .0)) (edgeName (edgeIn (drop (done * edgeStride) (now (edges .entry))) .origin) (edgeIn (drop (done * edgeStride) (now (edges .entry))) .from)) (nextsBy (edgeIn (drop (done * edgeStride) (now (edges .entry))) .origin)) (now (list .exit)) (now (names .exit)) (now (sequentials .exit)) r ⌝ }
 {
     let at = done * edges::EDGE;
     let from = edges[at + 1];
@@ -184,7 +185,7 @@ pub(crate) fn join_edges(
     j: Joining,
 ) -> Joining
     requires { ⌜ (number * edgeStride ≤ length (now edges)) × (count * flagStride ≤ length (now flags)) × Room j (edgesIn number (now edges)) ⌝ }
-    ensures { λ r. ⌜ Joins (now (list .entry)) (now (names .entry)) (now (sequentials .entry)) j (joinEdges (bitsOf b) (kernelOf k) (flagFor count (now (flags .entry))) (j .names) (edgesIn number (now (edges .entry))) (j .flow .0)) (namesOf (edgesIn number (now (edges .entry)))) (nextsOf (edgesIn number (now (edges .entry)))) (now (list .exit)) (now (names .exit)) (now (sequentials .exit)) r ⌝ }
+    ensures { λ r. ⌜ Joins (now (list .entry)) (now (names .entry)) (now (sequentials .entry)) j (joinEdges (bitPlaces b) (kernelPlaces k) (flagFor count (now (flags .entry))) (j .names) (edgesIn number (now (edges .entry))) (j .flow .0)) (namesOf (edgesIn number (now (edges .entry)))) (nextsOf (edgesIn number (now (edges .entry)))) (now (list .exit)) (now (names .exit)) (now (sequentials .exit)) r ⌝ }
 {
     let mut at = j;
     let mut done = 0;
@@ -232,7 +233,7 @@ fn join_dispatch(
     m: Made,
 ) -> Made
     requires { ⌜ done * dispatchStride + dispatchStride ≤ length (now dispatches) ⌝ }
-    ensures { λ r. ⌜ Gives (now (list .entry)) (m .tally) (controlFlowFromJalr (bitsOf b) (registerNode roles (dispatchIn (drop (done * dispatchStride) (now (dispatches .entry))) .register) .0) (dynamicFor (now (dynamics .entry)) (dispatchIn (drop (done * dispatchStride) (now (dispatches .entry))) .register)) (dispatchIn (drop (done * dispatchStride) (now (dispatches .entry))) .address) (m .node .0)) (now (list .exit)) (r .tally) (r .node .0) ⌝ }
+    ensures { λ r. ⌜ Gives (now (list .entry)) (m .tally) (controlFlowFromJalr (bitPlaces b) (registerNode roles (dispatchIn (drop (done * dispatchStride) (now (dispatches .entry))) .register) .0) (dynamicFor (now (dynamics .entry)) (dispatchIn (drop (done * dispatchStride) (now (dispatches .entry))) .register)) (dispatchIn (drop (done * dispatchStride) (now (dispatches .entry))) .address) (m .node .0)) (now (list .exit)) (r .tally) (r .node .0) ⌝ }
 {
     let at = done * dispatches::DISPATCH;
     let register = dispatches[at];
@@ -246,7 +247,7 @@ fn join_dispatch(
 fn register_node(roles: [NodeRef; 79], r: u64) -> NodeRef
     ensures { λ x. ⌜ x ≡ registerNode roles r ⌝ }
 {
-    if r > 31 {
+    if r > LAST_REGISTER {
         return roles[roles::REGISTERS];
     }
     let at = roles::REGISTERS + r as usize;
@@ -264,7 +265,7 @@ pub(crate) fn join_dispatches(
     m: Made,
 ) -> Made
     requires { ⌜ number * dispatchStride ≤ length (now dispatches) ⌝ }
-    ensures { λ r. ⌜ Gives (now (list .entry)) (m .tally) (joinDispatches (bitsOf b) (λ n. registerNode roles n .0) (dynamicFor (now (dynamics .entry))) (dispatchesIn number (now (dispatches .entry))) (m .node .0)) (now (list .exit)) (r .tally) (r .node .0) ⌝ }
+    ensures { λ r. ⌜ Gives (now (list .entry)) (m .tally) (joinDispatches (bitPlaces b) (λ n. registerNode roles n .0) (dynamicFor (now (dynamics .entry))) (dispatchesIn number (now (dispatches .entry))) (m .node .0)) (now (list .exit)) (r .tally) (r .node .0) ⌝ }
 {
     let mut at = m;
     let mut done = 0;

@@ -2,12 +2,15 @@
 use crate::lines::DYNAMICS;
 use crate::lines::FLAG;
 use crate::lines::find_flag;
+use btor2::BIT;
 use btor2::NodeRef;
+use btor2::WORD;
 use control_flow::Kernel;
 use dispatches::DISPATCH;
 use edges::BRANCH;
 use edges::EDGE;
 use edges::SYSCALL;
+use riscv::LAST_REGISTER;
 use roles_check::value_sort;
 ghost use mathlib.Core.Path.{_≡_};
 ghost use mathlib.Core.Bool.{_||_};
@@ -17,15 +20,7 @@ ghost use Rattle.edges.specs.Edges.{edgeStride};
 ghost use Rattle.edges.specs.Records.{dispatchStride};
 ghost use Rattle.join.specs.Given.{edgesIn, dispatchesIn, flagStride, flagFor, dynamicCount};
 ghost use Rattle.join.specs.Refusal.{bitOut, wordOut, edgesUnflagged, tableOut, dynamicsOut, edgeOut, edgesOut, dispatchOut, dispatchesOut};
-ghost use Rattle.join_calls.specs.Steps.{edge, dispatch};
-
-// The numbers of the sorts.
-const BIT: u64 = 1;
-
-const WORD: u64 = 2;
-
-// The last register.
-const LAST: u64 = 31;
+ghost use Rattle.join_calls.specs.Steps.{edgeRecord, dispatchRecord};
 
 // 15: an edge whose source has no flag, or, used or not, a flag of the table, a kernel node, a dynamic flag or the starting flow that is no Bit
 // value line.
@@ -126,7 +121,7 @@ pub(crate) fn edges_out(list: &[u64], lines: usize, edges: &[u64], number: usize
 
 // An unknown origin, or a branch without a Bit condition.
 fn edge_out(list: &[u64], lines: usize, origin: u64, condition: NodeRef) -> bool
-    ensures { λ r. ⌜ r ≡ edgeOut (now (list .entry)) lines (edge 0 origin (condition .0)) ⌝ }
+    ensures { λ r. ⌜ r ≡ edgeOut (now (list .entry)) lines (edgeRecord 0 origin (condition .0)) ⌝ }
 {
     (SYSCALL < origin) | ((origin == BRANCH) & bit_out(list, lines, condition))
 }
@@ -150,9 +145,9 @@ pub(crate) fn dispatches_out(list: &[u64], lines: usize, dispatches: &[u64], num
 
 // A register that is x0 or none, or an address node that is no Word value line.
 fn dispatch_out(list: &[u64], lines: usize, register: u64, address: NodeRef) -> bool
-    ensures { λ r. ⌜ r ≡ dispatchOut (now (list .entry)) lines (dispatch register (address .0)) ⌝ }
+    ensures { λ r. ⌜ r ≡ dispatchOut (now (list .entry)) lines (dispatchRecord register (address .0)) ⌝ }
 {
-    (register == 0) | ((LAST < register) | word_out(list, lines, address))
+    (register == 0) | ((LAST_REGISTER < register) | word_out(list, lines, address))
 }
 
 fn bit_out(list: &[u64], lines: usize, place: NodeRef) -> bool

@@ -12,7 +12,7 @@ ghost use Prim.Native.Nat.{_*_, _≤_, _<_, _^_};
 ghost use lib.Dec.{eqb};
 ghost use lib.ListN.{length};
 ghost use Rattle.edges.specs.Edges.{edgeStride};
-ghost use Rattle.join.specs.Program.{nameText, nextsBy};
+ghost use Rattle.join.specs.Program.{edgeName, nextsBy};
 ghost use Rattle.join.specs.Given.{edgesIn, flagStride, flagFor};
 ghost use Rattle.join_calls.specs.Room.{ownLines, edgeLines, zeroAfter, dispatchLines, leftAfter, edgeExceeds, exceeding};
 
@@ -77,7 +77,7 @@ fn left_after(left: Left, origin: u64, from: u64, clear: bool) -> Left
 
 // The bytes of the name that an edge puts into our name area.
 fn name_len(origin: u64, from: u64) -> usize
-    ensures { λ r. ⌜ r ≡ length (nameText origin from) ⌝ }
+    ensures { λ r. ⌜ r ≡ length (edgeName origin from) ⌝ }
 {
     if origin == SYSCALL {
         return flag_name_len(from);

@@ -25,7 +25,7 @@ use case_state::read_counts;
 use case_state::read_role;
 use decimal_text::read_decimal;
 use join::Asked;
-use join::Held;
+use join::JoinHeld;
 use join::Joined;
 use libc::STDIN_FILENO;
 use libc::STDOUT_FILENO;
@@ -74,7 +74,7 @@ struct Given {
 
 // All that stays from command to command but the words themselves.
 struct Desk {
-    held: Held,
+    held: JoinHeld,
     nodes: Nodes,
     lent: Lent,
     given: Given,
@@ -124,7 +124,7 @@ fn run(
 
 fn empty() -> Desk {
     Desk {
-        held: Held {
+        held: JoinHeld {
             state: State {
                 tally: Tally { lines: 0, nid: 0 },
                 counts: Counts {
@@ -200,7 +200,7 @@ fn run_state(text: &[u8], at: usize, which: u64, desk: Desk) -> Went {
     let changed = step.state;
     let after = with_held(
         desk,
-        Held {
+        JoinHeld {
             state: changed,
             sequentials: held.sequentials,
         },
@@ -211,7 +211,7 @@ fn run_state(text: &[u8], at: usize, which: u64, desk: Desk) -> Went {
     }
 }
 
-fn with_held(desk: Desk, held: Held) -> Desk {
+fn with_held(desk: Desk, held: JoinHeld) -> Desk {
     let nodes = desk.nodes;
     let lent = desk.lent;
     let given = desk.given;
@@ -275,7 +275,7 @@ fn with_lent(desk: Desk, lent: Lent, sequentials: usize) -> Desk {
     let nodes = desk.nodes;
     let given = desk.given;
     Desk {
-        held: Held { state, sequentials },
+        held: JoinHeld { state, sequentials },
         nodes,
         lent,
         given,

@@ -11,10 +11,10 @@ use lib.Seq.{sets, length-sets}
 use Rattle.edges.specs.Edges.{edgeStride}
 use Rattle.lowering_refusals.proofs.Within.{neither}
 use Rattle.join.specs.declared.Asked.{Asked}
-use Rattle.join.specs.declared.Held.{Held}
+use Rattle.join.specs.declared.JoinHeld.{JoinHeld}
 use Rattle.join.specs.Given.{edgesIn}
-use Rattle.join.specs.Refusal.{Lent, Given, given, programOf, flagsOut, lineCount, roomOut, refusalOf}
-use Rattle.join.specs.Join.{Answer, settled, joining}
+use Rattle.join.specs.Refusal.{JoinLent, JoinInput, joinInput, joinProgram, flagsOut, joinLineCount, joinRoomOut, joinRefusal}
+use Rattle.join.specs.Join.{JoinAnswer, joinSettled, joining}
 use Rattle.lowering_entry.specs.declared.InEdge.{InEdge}
 use Rattle.lowering_entry.specs.InEdges.{edgeWords}
 use Rattle.lowering_entry.proofs.Words.{records}
@@ -22,12 +22,12 @@ use Rattle.join_entry.specs.Records.{withWords, edgesOver, joiningRecord
 use Rattle.join_entry.specs.Parts.{putCount, Fits, joiningWithin}
 use Rattle.join_entry.proofs.Words.{same-edges}
 
-module _ (l : Lent) (h : Held) (dispatches flags dynamics : List ℕ) (a : Asked) where
+module _ (l : JoinLent) (h : JoinHeld) (dispatches flags dynamics : List ℕ) (a : Asked) where
   abbrev n : ℕ
   n = a .edges
 
-  abbrev of : List ℕ → Given
-  of ws = given ws dispatches flags dynamics a
+  abbrev of : List ℕ → JoinInput
+  of ws = joinInput ws dispatches flags dynamics a
 
   -- words for the edges that are asked for
   abbrev Enough : List ℕ → Type 0
@@ -35,7 +35,7 @@ module _ (l : Lent) (h : Held) (dispatches flags dynamics : List ℕ) (a : Asked
 
   -- of the words of its edges a join looks at the first edges, and whether there are so many
   same-join : (ws ws′ : List ℕ) → edgesIn n ws ≡ edgesIn n ws′ → Enough ws → Enough ws′ → joining l h (of ws) ≡ joining l h (of ws′)
-  unfolding joining settled refusalOf flagsOut roomOut lineCount programOf
+  unfolding joining joinSettled joinRefusal flagsOut joinRoomOut joinLineCount joinProgram
   same-join ws ws′ e enough enough′ = rw (e, enough, enough′)
 
   module _ (es : List InEdge) (ws : List ℕ) where
@@ -53,10 +53,10 @@ module _ (l : Lent) (h : Held) (dispatches flags dynamics : List ℕ) (a : Asked
     by-tests false false p q =
         let held : n * edgeStride ≤ length ws = omega (arith, ltb-false (length ws / edgeStride) n q) in
         rw (p, q, le-ltb n n (omega arith))
-        (ap (λ (x : Answer). withWords x (sets ws 0 (edgeWords (take n es))))
+        (ap (λ (x : JoinAnswer). withWords x (sets ws 0 (edgeWords (take n es))))
         (same-join (sets ws 0 (edgeWords (take n es))) (edgeWords es) (same-edges n es ws (ltb-false (length es) n p) held) (rw length-sets q) (rw records p)))
 
-    pub answered : (k : ℕ) (x : Answer) (zs : List ℕ) → k ≡ count → zs ≡ sets ws 0 (edgeWords (take k es)) → x ≡ joiningWithin k l h (of zs) → withWords x zs ≡ joiningRecords l h es ws dispatches flags dynamics a
+    pub answered : (k : ℕ) (x : JoinAnswer) (zs : List ℕ) → k ≡ count → zs ≡ sets ws 0 (edgeWords (take k es)) → x ≡ joiningWithin k l h (of zs) → withWords x zs ≡ joiningRecords l h es ws dispatches flags dynamics a
     answered k x zs counted told is = rw (is, told, counted) (by-tests (ltb (length es) n) (ltb (length ws / edgeStride) n) refl refl)
 
 -- as many records as are put, and words for them

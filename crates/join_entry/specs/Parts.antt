@@ -6,9 +6,9 @@ use lib.Dec.{ltb}
 use lib.ListN.{length}
 use Rattle.edges.specs.Edges.{edgeStride}
 use Rattle.join.specs.declared.Asked.{Asked}
-use Rattle.join.specs.declared.Held.{Held}
-use Rattle.join.specs.Refusal.{Lent, Given}
-use Rattle.join.specs.Join.{Answer, refused, joining}
+use Rattle.join.specs.declared.JoinHeld.{JoinHeld}
+use Rattle.join.specs.Refusal.{JoinLent, JoinInput}
+use Rattle.join.specs.Join.{JoinAnswer, joinRefused, joining}
 use Rattle.lowering_entry.specs.declared.InEdge.{InEdge}
 use Rattle.join_entry.specs.Records.{edgesOver}
 
@@ -22,5 +22,5 @@ pub record Fits (count : ℕ) (es : List InEdge) (ws : List ℕ) : Type 0 where
   pub words : count * edgeStride ≤ length ws
 
 -- the join, with so many edges in the words that it is given
-abbrev pub joiningWithin : ℕ → Lent → Held → Given → Answer
-joiningWithin count l h g = cond (ltb count (g .asked .edges)) (refused 9 l h g) (joining l h g)
+abbrev pub joiningWithin : ℕ → JoinLent → JoinHeld → JoinInput → JoinAnswer
+joiningWithin count l h g = cond (ltb count (g .asked .edges)) (joinRefused 9 l h g) (joining l h g)

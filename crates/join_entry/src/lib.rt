@@ -2,16 +2,17 @@
 // number slices, does the work.
 use edges::EDGE;
 use join::Asked;
-use join::Held;
+use join::JoinHeld;
 use join::Joined;
 use lowering_entry::InEdge;
+use lowering_refusals::BAD_COUNT;
 ghost use mathlib.Core.Path.{_≡_};
 ghost use Prim.Native.Nat.{_+_, _*_, _≤_};
 ghost use lib.ListN.{length, take};
 ghost use lib.Seq.{sets};
 ghost use Rattle.edges.specs.Edges.{edge, edgeStride};
-ghost use Rattle.join.specs.Refusal.{lent, given};
-ghost use Rattle.join.specs.Join.{answer};
+ghost use Rattle.join.specs.Refusal.{joinLent, joinInput};
+ghost use Rattle.join.specs.Join.{joinAnswer};
 ghost use Rattle.lowering_entry.specs.InEdges.{edgeWords};
 ghost use Rattle.join_entry.specs.Records.{withWords, joiningRecords};
 ghost use Rattle.join_entry.specs.Parts.{putCount, Fits, joiningWithin};
@@ -28,9 +29,9 @@ pub fn join(
     flags: &[u64],
     dynamics: &[u64; 31],
     a: Asked,
-    h: Held,
+    h: JoinHeld,
 ) -> Joined
-    ensures { λ r. ⌜ withWords (answer (r .refusal) (r .flow .0) (r .held) (lent (now (list .exit)) (now (names .exit)) (now (sequentials .exit)))) (now (words .exit)) ≡ joiningRecords (lent (now (list .entry)) (now (names .entry)) (now (sequentials .entry))) h (now (edges .entry)) (now (words .entry)) (now (dispatches .entry)) (now (flags .entry)) (now (dynamics .entry)) a ⌝ }
+    ensures { λ r. ⌜ withWords (joinAnswer (r .refusal) (r .flow .0) (r .held) (joinLent (now (list .exit)) (now (names .exit)) (now (sequentials .exit)))) (now (words .exit)) ≡ joiningRecords (joinLent (now (list .entry)) (now (names .entry)) (now (sequentials .entry))) h (now (edges .entry)) (now (words .entry)) (now (dispatches .entry)) (now (flags .entry)) (now (dynamics .entry)) a ⌝ }
 {
     let count = put_count(edges.len(), words.len(), a);
     put_words(edges, count, words);
@@ -94,14 +95,14 @@ fn join_apart(
     flags: &[u64],
     dynamics: &[u64; 31],
     a: Asked,
-    h: Held,
+    h: JoinHeld,
 ) -> Joined
-    ensures { λ r. ⌜ answer (r .refusal) (r .flow .0) (r .held) (lent (now (list .exit)) (now (names .exit)) (now (sequentials .exit))) ≡ joiningWithin count (lent (now (list .entry)) (now (names .entry)) (now (sequentials .entry))) h (given (now (words .entry)) (now (dispatches .entry)) (now (flags .entry)) (now (dynamics .entry)) a) ⌝ }
+    ensures { λ r. ⌜ joinAnswer (r .refusal) (r .flow .0) (r .held) (joinLent (now (list .exit)) (now (names .exit)) (now (sequentials .exit))) ≡ joiningWithin count (joinLent (now (list .entry)) (now (names .entry)) (now (sequentials .entry))) h (joinInput (now (words .entry)) (now (dispatches .entry)) (now (flags .entry)) (now (dynamics .entry)) a) ⌝ }
 {
     if count < a.edges {
         let flow = a.flow;
         return Joined {
-            refusal: 9,
+            refusal: BAD_COUNT,
             flow,
             held: h,
         };

@@ -23,10 +23,11 @@ use Rattle.builder.specs.declared.Tally.{Tally}
 use Rattle.builder.specs.Append.{Store, at, append}
 use Rattle.program.specs.Prog.{Prog, Run, ran, exec}
 use Rattle.riscv.specs.Refusal.{first}
-use Rattle.roles.specs.Roles.{role, roleCount, lastRegister, registerNode}
+use Rattle.roles.specs.Roles.{role, roleCount, registerNode}
+use Rattle.riscv.specs.Format.{lastRegister}
 use Rattle.roles_check.specs.RolesFit.{valueSort, rolesFit}
 use Rattle.edges.specs.Edges.{branchOrigin, syscallOrigin}
-use Rattle.lowering_refusals.specs.Refusal.{mostLines, mostNid}
+use Rattle.btor2_list.specs.Limits.{mostLines, mostNid}
 use Rattle.lowering_refusals.proofs.Within.{neither}
 use Rattle.program.specs.Lines.{linesOf, resultOf, placeAfter}
 use Rattle.lowering_laws.specs.Lines.{numbered, taking}
@@ -36,14 +37,14 @@ use Rattle.meaning.specs.Lines.{operators}
 use Rattle.meaning.proofs.Behind.{inside}
 use Rattle.roles_kept.proofs.Views.{operators-length, numbered-operators, map-append, look-is}
 use Rattle.roles_kept.proofs.RoleSets.{Fit, fit-given, given-fit, fit-node}
-use Rattle.join.specs.Program.{Edge, Dispatch, join}
+use Rattle.join.specs.Program.{Edge, Dispatch, joinAddress}
 use Rattle.join.specs.Given.{dynamicCount, dynamicFor, noFlag, dispatchesIn}
 use Rattle.control_flow.specs.Listed.{Listed, listed, appendListed}
 use Rattle.join.specs.Program.{namesOf, nextsOf}
 use Rattle.control_flow.proofs.Lists.{forgets}
-use Rattle.join.specs.declared.Held.{Held}
-use Rattle.join.specs.Refusal.{Lent, Given, edgesOf, dispatchesOf, flagOf, bitsIn, kernelIn, programOf, countsOut, bitOut, wordOut, edgesUnflagged, tableOut, dynamicsOut, flagsOut, edgesOut, dispatchesOut, lineCount, roomOut, refusalOf}
-use Rattle.join.specs.Join.{Answer, storeOf, settled, joining}
+use Rattle.join.specs.declared.JoinHeld.{JoinHeld}
+use Rattle.join.specs.Refusal.{JoinLent, JoinInput, edgesOf, dispatchesOf, flagOf, bitsIn, kernelIn, joinProgram, joinCountsOut, bitOut, wordOut, edgesUnflagged, tableOut, dynamicsOut, flagsOut, edgesOut, dispatchesOut, joinLineCount, joinRoomOut, joinRefusal}
+use Rattle.join.specs.Join.{JoinAnswer, joinStore, joinSettled, joining}
 use Rattle.join.proofs.Numbers.{Passed, passed}
 use Rattle.join_laws.specs.Push.{pushed}
 use Rattle.join_laws.specs.Active as Act
@@ -86,7 +87,7 @@ one-in ws n (suc k) ds o (suc i) h = next ds (one-in ws n k (drop 1 ds) (neither
 dynamic-in : (ws : List ℕ) (n : ℕ) (ds : List ℕ) → dynamicsOut ws n dynamicCount ds ≡ false → (r : ℕ) → eqb r 0 ≡ false → r ≤ lastRegister → bitOut ws n (dynamicFor ds r) ≡ false
 dynamic-in ws n ds o r z m = let more : r ≡ 0 → ⊥ = eqb-false r 0 z in rw z (one-in ws n dynamicCount ds o (r - 1) (omega (arith, more)))
 
-module _ (l : Lent) (h : Held) (g : Given) (e : refusalOf l h g ≡ 0) where
+module _ (l : JoinLent) (h : JoinHeld) (g : JoinInput) (e : joinRefusal l h g ≡ 0) where
   abbrev lines : ℕ
   lines = h .state .tally .lines
 
@@ -97,23 +98,23 @@ module _ (l : Lent) (h : Held) (g : Given) (e : refusalOf l h g ≡ 0) where
   held = omega (arith, its .counts .held)
 
   -- the lines fit
-  pub room : Room (l .list) (h .state .tally) (lineCount (h .state) g) (taking (linesOf (placeAfter lines) 0 (programOf (h .state) g)))
-  unfolding roomOut lineCount
+  pub room : Room (l .list) (h .state .tally) (joinLineCount (h .state) g) (taking (linesOf (placeAfter lines) 0 (joinProgram (h .state) g)))
+  unfolding joinRoomOut joinLineCount
   room =
-      let p = neither (ltb mostLines (lines + lineCount (h .state) g)) _ (its .room) in
-      let q = neither (ltb (length (l .list) / stride) (lines + lineCount (h .state) g)) _ (p .1) in
+      let p = neither (ltb mostLines (lines + joinLineCount (h .state) g)) _ (its .room) in
+      let q = neither (ltb (length (l .list) / stride) (lines + joinLineCount (h .state) g)) _ (p .1) in
       record {
-        lines = ltb-false (length (l .list) / stride) (lines + lineCount (h .state) g) (q .0);
-        nids = omega (arith, its .counts .nids, ltb-false mostLines (lines + lineCount (h .state) g) (p .0), taking-most (linesOf (placeAfter lines) 0 (programOf (h .state) g)));
+        lines = ltb-false (length (l .list) / stride) (lines + joinLineCount (h .state) g) (q .0);
+        nids = omega (arith, its .counts .nids, ltb-false mostLines (lines + joinLineCount (h .state) g) (p .0), taking-most (linesOf (placeAfter lines) 0 (joinProgram (h .state) g)));
       }
 
-  pub its-run : Laid lines 0 (lineCount (h .state) g) (l .list) (h .state .tally) (programOf (h .state) g) (exec append (at (l .list) (h .state .tally)) (programOf (h .state) g))
-  unfolding lineCount programOf
+  pub its-run : Laid lines 0 (joinLineCount (h .state) g) (l .list) (h .state .tally) (joinProgram (h .state) g) (exec append (at (l .list) (h .state .tally)) (joinProgram (h .state) g))
+  unfolding joinLineCount joinProgram
   its-run =
-      laid (programOf (h .state) g) lines 0 (l .list) (h .state .tally) (sym (add-zero _)) room
+      laid (joinProgram (h .state) g) lines 0 (l .list) (h .state .tally) (sym (add-zero _)) room
       (fit-lines (joined (bitsIn (h .state)) (kernelIn g) (flagOf g) (λ r. registerNode (h .state .roles) r .0) (dynamicFor (g .dynamics)) (h .state .counts .names) (edgesOf g) (dispatchesOf g) (g .asked .flow .0)) (placeAfter lines) 0)
 
-module _ (l : Lent) (h : Held) (g : Given) (sorted : T (meetsSortRule (operators (l .list) (h .state .tally .lines)))) (given : length (h .state .roles) ≡ roleCount) (e : refusalOf l h g ≡ 0) where
+module _ (l : JoinLent) (h : JoinHeld) (g : JoinInput) (sorted : T (meetsSortRule (operators (l .list) (h .state .tally .lines)))) (given : length (h .state .roles) ≡ roleCount) (e : joinRefusal l h g ≡ 0) where
   abbrev n : ℕ
   n = h .state .tally .lines
 
@@ -191,19 +192,19 @@ module _ (l : Lent) (h : Held) (g : Given) (sorted : T (meetsSortRule (operators
       let f5 = neither (dynamicsOut (l .list) n dynamicCount (g .dynamics)) _ (f4 .1) in
       record { edges = f1 .0; mode = f3 .0; none = f4 .0; dynamics = f5 .0; flow = f5 .1 }
 
-  ruled : S.Ruled xs (pushed xs (programOf (h .state) g))
-  unfolding programOf
+  ruled : S.Ruled xs (pushed xs (joinProgram (h .state) g))
+  unfolding joinProgram
   ruled =
       S.joined (bitsIn (h .state)) (kernelIn g) (flagOf g) (λ r. registerNode (h .state .roles) r .0) (dynamicFor (g .dynamics)) xs
       (record { sorted = sorted; zero = its-bit 0 (omega arith); one = its-bit 1 (omega arith); mode = is-bit (g .asked .mode .0) (flagged .mode); none = is-bit (g .asked .none .0) (flagged .none) })
       (h .state .counts .names) (edgesOf g) (dispatchesOf g) (sorts (edgesOf g) (flagged .edges) (its l h g e .edges)) (dispatch-sorts (dispatchesOf g) (its l h g e .dispatches) (flagged .dynamics)) (g .asked .flow .0) (is-bit (g .asked .flow .0) (flagged .flow))
 
   -- the lines after it
-  as-pushed : (full : Run Listed ℕ) → ran (full .state .store) (full .value) ≡ exec append (at (l .list) (h .state .tally)) (programOf (h .state) g)
-      → ran (operators (full .state .store .words) (full .state .store .tally .lines)) (full .value) ≡ pushed xs (programOf (h .state) g)
+  as-pushed : (full : Run Listed ℕ) → ran (full .state .store) (full .value) ≡ exec append (at (l .list) (h .state .tally)) (joinProgram (h .state) g)
+      → ran (operators (full .state .store .words) (full .state .store .tally .lines)) (full .value) ≡ pushed xs (joinProgram (h .state) g)
   as-pushed full forgot =
       ap (λ (r : Run Store ℕ). ran (operators (r .state .words) (r .state .tally .lines)) (r .value)) forgot
-      ∙ laid-pushed (programOf (h .state) g) (lineCount (h .state) g) (l .list) (h .state .tally) _ (its-run l h g e)
+      ∙ laid-pushed (joinProgram (h .state) g) (joinLineCount (h .state) g) (l .list) (h .state .tally) _ (its-run l h g e)
 
   module _ (env : Env) where
     bit : (p : ℕ) → bitOut (l .list) n p ≡ false → Act.Bit env xs p
@@ -238,7 +239,7 @@ module _ (l : Lent) (h : Held) (g : Given) (sorted : T (meetsSortRule (operators
 
   -- what its values rest on
   module _ (env : Env) (z : ZeroAndOne env l h) where
-    bits : Act.Given env xs (bitsIn (h .state))
+    bits : Act.KnownBits env xs (bitsIn (h .state))
     bits = record {
       zero = inside B1 xs _ (its-bit 0 (omega arith));
       one = inside B1 xs _ (its-bit 1 (omega arith));
@@ -253,11 +254,11 @@ module _ (l : Lent) (h : Held) (g : Given) (sorted : T (meetsSortRule (operators
     starts : g .asked .flow .0 < length xs
     starts = inside B1 xs (g .asked .flow .0) (is-bit (g .asked .flow .0) (flagged .flow))
 
-    module _ (full : Run Listed ℕ) (forgot : ran (full .state .store) (full .value) ≡ exec append (at (l .list) (h .state .tally)) (programOf (h .state) g)) where
+    module _ (full : Run Listed ℕ) (forgot : ran (full .state .store) (full .value) ≡ exec append (at (l .list) (h .state .tally)) (joinProgram (h .state) g)) where
       means-in : Act.on env (operators (full .state .store .words) (full .state .store .tally .lines)) (full .value)
           ≡ ((Act.anyActive env (flagOf g) (bitsIn (h .state)) (kernelIn g) xs (h .state .counts .names) (edgesOf g) (g .asked .flow .0)
           || Act.anyDispatched env (λ r. registerNode (h .state .roles) r .0) (dynamicFor (g .dynamics)) xs (dispatchesOf g)) || Act.on env xs (g .asked .flow .0))
-      unfolding programOf
+      unfolding joinProgram
       means-in =
           ap (λ (r : Run (List (Op ℕ)) ℕ). Act.on env (r .state) (r .value)) (as-pushed full forgot)
           ∙ join-means env xs (bitsIn (h .state)) (kernelIn g) (flagOf g) (λ r. registerNode (h .state .roles) r .0) (dynamicFor (g .dynamics)) (h .state .counts .names) (edgesOf g) (dispatchesOf g) (g .asked .flow .0)
@@ -265,7 +266,7 @@ module _ (l : Lent) (h : Held) (g : Given) (sorted : T (meetsSortRule (operators
 
       plain-in : Act.NoSyscall (edgesOf g) → g .asked .dispatches ≡ 0
           → Act.on env (operators (full .state .store .words) (full .state .store .tally .lines)) (full .value) ≡ (Act.anyPlain env (flagOf g) xs (edgesOf g) || Act.on env xs (g .asked .flow .0))
-      unfolding programOf dispatchesIn
+      unfolding joinProgram dispatchesIn
       plain-in o d =
           ap (λ (r : Run (List (Op ℕ)) ℕ). Act.on env (r .state) (r .value)) (as-pushed full forgot)
           ∙ rw d
@@ -273,20 +274,20 @@ module _ (l : Lent) (h : Held) (g : Given) (sorted : T (meetsSortRule (operators
           bits (bit env (g .asked .none .0) (flagged .none)) all-sound o starts)
 
   pub accepted : AcceptedJoin l h g (joining l h g)
-  unfolding joining settled
-  accepted = rw (eq-eqb (refusalOf l h g) 0 e) (record {
+  unfolding joining joinSettled
+  accepted = rw (eq-eqb (joinRefusal l h g) 0 e) (record {
     refusal = refl;
-    nodes = subst (λ (r : Run Store ℕ). view (r .state .words) (r .state .tally .lines) ≡ view (l .list) n ++ numbered (h .state .tally .nid) (linesOf (placeAfter n) 0 (programOf (h .state) g))) (sym forgot) ((its-run l h g e) .nodes);
-    lines = subst (λ (r : Run Store ℕ). r .state .tally .lines ≡ n + lineCount (h .state) g) (sym forgot) ((its-run l h g e) .lines);
-    nids = subst (λ (r : Run Store ℕ). r .state .tally .nid ≡ h .state .tally .nid + taking (linesOf (placeAfter n) 0 (programOf (h .state) g))) (sym forgot) ((its-run l h g e) .nids);
+    nodes = subst (λ (r : Run Store ℕ). view (r .state .words) (r .state .tally .lines) ≡ view (l .list) n ++ numbered (h .state .tally .nid) (linesOf (placeAfter n) 0 (joinProgram (h .state) g))) (sym forgot) ((its-run l h g e) .nodes);
+    lines = subst (λ (r : Run Store ℕ). r .state .tally .lines ≡ n + joinLineCount (h .state) g) (sym forgot) ((its-run l h g e) .lines);
+    nids = subst (λ (r : Run Store ℕ). r .state .tally .nid ≡ h .state .tally .nid + taking (linesOf (placeAfter n) 0 (joinProgram (h .state) g))) (sym forgot) ((its-run l h g e) .nids);
     roles = refl;
-    list = subst (λ (r : Run Store ℕ). Elsewhere (n * stride) ((n + lineCount (h .state) g) * stride) (l .list) (r .state .words)) (sym forgot) (record { size = (its-run l h g e) .size; below = (its-run l h g e) .below; above = (its-run l h g e) .above });
+    list = subst (λ (r : Run Store ℕ). Elsewhere (n * stride) ((n + joinLineCount (h .state) g) * stride) (l .list) (r .state .words)) (sym forgot) (record { size = (its-run l h g e) .size; below = (its-run l h g e) .below; above = (its-run l h g e) .above });
     names = record {
       size = length-sets (l .names) (h .state .counts .names) (namesOf (edgesOf g));
       below = λ j q. below (namesOf (edgesOf g)) (l .names) (h .state .counts .names) j q;
       above = λ j q. above (namesOf (edgesOf g)) (l .names) (h .state .counts .names) j q;
     };
-    sequentials = listed-else p (storeOf l h) .part;
+    sequentials = listed-else p (joinStore l h) .part;
     fit = given-fit (full .state .store .words) (full .state .store .tally .lines) (h .state .roles) stored-in given (fit-after _ (ruled .more) extended);
     stored = stored-in;
     more = ruled .more;
@@ -297,13 +298,13 @@ module _ (l : Lent) (h : Held) (g : Given) (sorted : T (meetsSortRule (operators
   })
     where
       p : Prog ℕ ℕ
-      p = programOf (h .state) g
+      p = joinProgram (h .state) g
 
       full : Run Listed ℕ
-      full = exec appendListed (storeOf l h) p
+      full = exec appendListed (joinStore l h) p
 
       forgot : ran (full .state .store) (full .value) ≡ exec append (at (l .list) (h .state .tally)) p
-      forgot = forgets p (storeOf l h)
+      forgot = forgets p (joinStore l h)
 
       stored-in : full .state .store .tally .lines * stride ≤ length (full .state .store .words)
       stored-in = subst (λ (r : Run Store ℕ). r .state .tally .lines * stride ≤ length (r .state .words)) (sym forgot) (rw ((its-run l h g e) .lines, (its-run l h g e) .size) (omega (arith, room l h g e .lines)))

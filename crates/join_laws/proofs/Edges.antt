@@ -12,18 +12,18 @@ use Rattle.btor2.proofs.Value.{value-kept}
 use Rattle.program.specs.Prog.{Prog, done, _>>=_, Run, ran, exec}
 use Rattle.program.proofs.Exec.{exec-bind}
 use Rattle.control_flow.specs.ControlFlow.{Bits, Kernel, controlFlowFromRegular, controlFlowFromBranch, controlFlowFromEcall, controlFlowFromJalr}
-use Rattle.join.specs.Program.{Edge, Dispatch, fromEdge, joinEdges, joinDispatches, join}
+use Rattle.join.specs.Program.{Edge, Dispatch, fromEdge, joinEdges, joinDispatches, joinAddress}
 use Rattle.control_flow.specs.FlagName.{nameAt}
-use Rattle.join.specs.Program.{nameText}
+use Rattle.join.specs.Program.{edgeName}
 use Rattle.join_laws.specs.Push.{push, pushed}
-use Rattle.join_laws.specs.Active.{on, Bit, Given, activeEdge, anyActive, Sound, AllSound, activePlain, anyPlain, activeDispatch, anyDispatched, Reached, AllReached, NoSyscall, JoinMeans, PlainMeans}
+use Rattle.join_laws.specs.Active.{on, Bit, KnownBits, activeEdge, anyActive, Sound, AllSound, activePlain, anyPlain, activeDispatch, anyDispatched, Reached, AllReached, NoSyscall, JoinMeans, PlainMeans}
 use Rattle.join_laws.proofs.Pushed.{bit-kept}
 use Rattle.join_laws.proofs.Step.{Stepped, given-kept, wider, by, twice, regular, branched, called, jumped}
 
 module _ (env : Env) (flagOf : ℕ → ℕ) (b : Bits ℕ) (k : Kernel ℕ) where
   -- what holds of the list when a step begins
   pub record Ready (xs : List (Op ℕ)) : Type 0 where
-    pub given : Given env xs b
+    pub given : KnownBits env xs b
     pub none : Bit env xs (k .none)
 
   pub ready-kept : {xs ys : List (Op ℕ)} (zs : List (Op ℕ)) → ys ≡ xs ++ zs → Ready xs → Ready ys
@@ -58,10 +58,10 @@ module _ (env : Env) (flagOf : ℕ → ℕ) (b : Bits ℕ) (k : Kernel ℕ) wher
   edges xs r at (x ∷ es) s flow hf =
       let one = edge xs r at x (s .0) flow hf in
       let y = pushed xs (fromEdge b k flagOf at x flow) in
-      subst (λ q. Stepped env xs flow (activeEdge env flagOf k xs x || anyActive env flagOf b k (y .state) (at + length (nameText (x .origin) (x .from))) es (y .value)) q)
-      (sym (exec-bind push (fromEdge b k flagOf at x flow) (λ f. joinEdges b k flagOf (at + length (nameText (x .origin) (x .from))) es f) xs))
+      subst (λ q. Stepped env xs flow (activeEdge env flagOf k xs x || anyActive env flagOf b k (y .state) (at + length (edgeName (x .origin) (x .from))) es (y .value)) q)
+      (sym (exec-bind push (fromEdge b k flagOf at x flow) (λ f. joinEdges b k flagOf (at + length (edgeName (x .origin) (x .from))) es f) xs))
       (twice env one
-      (edges (y .state) (ready-kept (one .more) (one .extends) r) (at + length (nameText (x .origin) (x .from))) es (sound-kept xs (y .state) (one .more) (one .extends) es (s .1)) (y .value) (one .place)))
+      (edges (y .state) (ready-kept (one .more) (one .extends) r) (at + length (edgeName (x .origin) (x .from))) es (sound-kept xs (y .state) (one .more) (one .extends) es (s .1)) (y .value) (one .place)))
 
 module _ (env : Env) (b : Bits ℕ) (registers dynamics : ℕ → ℕ) where
   reached-kept : (xs ys zs : List (Op ℕ)) → ys ≡ xs ++ zs → (ds : List (Dispatch ℕ)) → AllReached env registers dynamics xs ds → AllReached env registers dynamics ys ds
@@ -80,7 +80,7 @@ module _ (env : Env) (b : Bits ℕ) (registers dynamics : ℕ → ℕ) where
       rw (value-kept env xs zs (dynamics (x .register)) (s .0 .dynamic .place), value-kept env xs zs (registers (x .register)) (s .0 .register), value-kept env xs zs (x .address) (s .0 .address)) in
       ap₂ (λ p q. p || q) (ap (λ l. activeDispatch env registers dynamics l x) e ∙ head) (dispatched-kept xs ys zs e ds (s .1))
 
-  pub dispatches : (xs : List (Op ℕ)) → Given env xs b → (ds : List (Dispatch ℕ)) → AllReached env registers dynamics xs ds → (flow : ℕ) → flow < length xs
+  pub dispatches : (xs : List (Op ℕ)) → KnownBits env xs b → (ds : List (Dispatch ℕ)) → AllReached env registers dynamics xs ds → (flow : ℕ) → flow < length xs
       → Stepped env xs flow (anyDispatched env registers dynamics xs ds) (pushed xs (joinDispatches b registers dynamics ds flow))
   unfolding joinDispatches anyDispatched
   dispatches xs g [] s flow hf = record { more = []; extends = sym (append-nil xs); place = hf; is = refl }
@@ -92,10 +92,10 @@ module _ (env : Env) (b : Bits ℕ) (registers dynamics : ℕ → ℕ) where
       (sym (exec-bind push p (λ f. joinDispatches b registers dynamics ds f) xs))
       (by env (ap (λ t. activeDispatch env registers dynamics xs x || t) (dispatched-kept xs (y .state) (one .more) (one .extends) ds (s .1)))
       (twice env one
-      (dispatches (y .state) (subst (λ l. Given env l b) (sym (one .extends)) (given-kept env (one .more) g)) ds (reached-kept xs (y .state) (one .more) (one .extends) ds (s .1)) (y .value) (one .place))))
+      (dispatches (y .state) (subst (λ l. KnownBits env l b) (sym (one .extends)) (given-kept env (one .more) g)) ds (reached-kept xs (y .state) (one .more) (one .extends) ds (s .1)) (y .value) (one .place))))
 
 pub join-means : JoinMeans
-unfolding join
+unfolding joinAddress
 join-means env xs b k flagOf registers dynamics at es ds flow g n s d hf =
     let one = edges env flagOf b k xs (record { given = g; none = n }) at es s flow hf in
     let p = joinEdges b k flagOf at es flow in
@@ -104,7 +104,7 @@ join-means env xs b k flagOf registers dynamics at es ds flow g n s d hf =
     (sym (exec-bind push p (λ f. joinDispatches b registers dynamics ds f) xs))
     (by env (ap (λ t. anyActive env flagOf b k xs at es flow || t) (dispatched-kept env b registers dynamics xs (y .state) (one .more) (one .extends) ds d))
     (twice env one
-    (dispatches env b registers dynamics (y .state) (subst (λ l. Given env l b) (sym (one .extends)) (given-kept env (one .more) g)) ds (reached-kept env b registers dynamics xs (y .state) (one .more) (one .extends) ds d) (y .value) (one .place))) .is)
+    (dispatches env b registers dynamics (y .state) (subst (λ l. KnownBits env l b) (sym (one .extends)) (given-kept env (one .more) g)) ds (reached-kept env b registers dynamics xs (y .state) (one .more) (one .extends) ds d) (y .value) (one .place))) .is)
 
 -- ---- regular and branch edges
 
@@ -131,7 +131,7 @@ module _ (env : Env) (flagOf : ℕ → ℕ) (b : Bits ℕ) (k : Kernel ℕ) wher
       let y = pushed xs (fromEdge b k flagOf at x flow) in
       let head : activeEdge env flagOf k xs x ≡ activePlain env flagOf xs x = rw (ne-eqb (x .origin) 2 (n .0)) in
       ap₂ (λ p q. p || q) head
-      (active-plain (y .state) (ready-kept env flagOf b k (one .more) (one .extends) r) (at + length (nameText (x .origin) (x .from))) es (sound-kept env flagOf b k xs (y .state) (one .more) (one .extends) es (s .1)) (n .1) (y .value) (one .place)
+      (active-plain (y .state) (ready-kept env flagOf b k (one .more) (one .extends) r) (at + length (edgeName (x .origin) (x .from))) es (sound-kept env flagOf b k xs (y .state) (one .more) (one .extends) es (s .1)) (n .1) (y .value) (one .place)
       ∙ plain-kept xs (y .state) (one .more) (one .extends) es (s .1))
 
 pub plain-means : PlainMeans

@@ -13,9 +13,9 @@ use Rattle.program.specs.OneLine.{newIte}
 use Rattle.program.specs.Lines.{linesOf}
 use Rattle.lowering_laws.proofs.Growth.{fitting}
 use Rattle.control_flow.specs.ControlFlow.{Bits, Kernel, controlFlowFromAny, controlFlowFromRegular, controlFlowFromBranch, controlFlowFromEcall, controlFlowFromJalr}
-use Rattle.join.specs.Program.{Edge, Dispatch, fromEdge, joinEdges, joinDispatches, join}
+use Rattle.join.specs.Program.{Edge, Dispatch, fromEdge, joinEdges, joinDispatches, joinAddress}
 use Rattle.control_flow.specs.FlagName.{nameAt}
-use Rattle.join.specs.Program.{nameText}
+use Rattle.join.specs.Program.{edgeName}
 
 pub data Fit {X : Type 0} : Prog ℕ X → Type 0 where
   none : {x : X} → Fit (done x)
@@ -64,13 +64,13 @@ module _ (b : Bits ℕ) where
     edges : (at : ℕ) (es : List (Edge ℕ)) (flow : ℕ) → Fit (joinEdges b k flagOf at es flow)
     unfolding joinEdges
     edges at [] flow = none
-    edges at (x ∷ es) flow = fit-bind (edge at x flow) _ (λ f. edges (at + length (nameText (x .origin) (x .from))) es f)
+    edges at (x ∷ es) flow = fit-bind (edge at x flow) _ (λ f. edges (at + length (edgeName (x .origin) (x .from))) es f)
 
     dispatches : (registers dynamics : ℕ → ℕ) (ds : List (Dispatch ℕ)) (flow : ℕ) → Fit (joinDispatches b registers dynamics ds flow)
     unfolding joinDispatches
     dispatches registers dynamics [] flow = none
     dispatches registers dynamics (x ∷ ds) flow = fit-bind (jalr (registers (x .register)) (dynamics (x .register)) (x .address) flow) _ (λ f. dispatches registers dynamics ds f)
 
-    pub joined : (registers dynamics : ℕ → ℕ) (at : ℕ) (es : List (Edge ℕ)) (ds : List (Dispatch ℕ)) (flow : ℕ) → Fit (join b k flagOf registers dynamics at es ds flow)
-    unfolding join
+    pub joined : (registers dynamics : ℕ → ℕ) (at : ℕ) (es : List (Edge ℕ)) (ds : List (Dispatch ℕ)) (flow : ℕ) → Fit (joinAddress b k flagOf registers dynamics at es ds flow)
+    unfolding joinAddress
     joined registers dynamics at es ds flow = fit-bind (edges at es flow) _ (λ f. dispatches registers dynamics ds f)

@@ -22,9 +22,9 @@ use Rattle.program.specs.OneLine.{newIte}
 use Rattle.program.proofs.Exec.{exec-bind}
 use Rattle.meaning.proofs.Behind.{inside}
 use Rattle.control_flow.specs.ControlFlow.{Bits, Kernel, controlFlowFromAny, controlFlowFromRegular, controlFlowFromBranch, controlFlowFromEcall, controlFlowFromJalr}
-use Rattle.join.specs.Program.{Edge, Dispatch, fromEdge, joinEdges, joinDispatches, join}
+use Rattle.join.specs.Program.{Edge, Dispatch, fromEdge, joinEdges, joinDispatches, joinAddress}
 use Rattle.control_flow.specs.FlagName.{nameAt}
-use Rattle.join.specs.Program.{nameText}
+use Rattle.join.specs.Program.{edgeName}
 use Rattle.join_laws.specs.Push.{push, pushed}
 use Rattle.join_laws.proofs.Pushed.{longer}
 
@@ -222,8 +222,8 @@ module _ (b : Bits ℕ) (k : Kernel ℕ) where
     edges xs n at (x ∷ es) s flow hf =
         let u = edge xs n at x (s .0) flow hf in
         let y = pushed xs (fromEdge b k flagOf at x flow) in
-        subst (λ q. Ruled xs q) (sym (exec-bind push (fromEdge b k flagOf at x flow) (λ f. joinEdges b k flagOf (at + length (nameText (x .origin) (x .from))) es f) xs))
-        (twice u (edges (y .state) (nodes-by n u) (at + length (nameText (x .origin) (x .from))) es (sorts-kept xs (y .state) (u .more) (u .extends) es (s .1)) (y .value) (u .flow)))
+        subst (λ q. Ruled xs q) (sym (exec-bind push (fromEdge b k flagOf at x flow) (λ f. joinEdges b k flagOf (at + length (edgeName (x .origin) (x .from))) es f) xs))
+        (twice u (edges (y .state) (nodes-by n u) (at + length (edgeName (x .origin) (x .from))) es (sorts-kept xs (y .state) (u .more) (u .extends) es (s .1)) (y .value) (u .flow)))
 
     module _ (registers dynamics : ℕ → ℕ) where
       pub record DispatchSorts (xs : List (Op ℕ)) (x : Dispatch ℕ) : Type 0 where
@@ -258,8 +258,8 @@ module _ (b : Bits ℕ) (k : Kernel ℕ) where
 
       -- the whole join
       pub joined : (xs : List (Op ℕ)) → Nodes xs → (at : ℕ) (es : List (Edge ℕ)) (ds : List (Dispatch ℕ)) → AllSorts xs es → AllDispatched xs ds → (flow : ℕ) → T (lineIs B1 xs flow)
-          → Ruled xs (pushed xs (join b k flagOf registers dynamics at es ds flow))
-      unfolding join
+          → Ruled xs (pushed xs (joinAddress b k flagOf registers dynamics at es ds flow))
+      unfolding joinAddress
       joined xs n at es ds s d flow hf =
           let p = joinEdges b k flagOf at es flow in
           let u = edges xs n at es s flow hf in

@@ -20,7 +20,7 @@ use Rattle.program.specs.OneLine.{newIte, newAndBit}
 use Rattle.program.proofs.Exec.{exec-bind}
 use Rattle.control_flow.specs.ControlFlow.{Bits, Kernel, controlFlowFromAny, controlFlowFromRegular, controlFlowFromBranch, controlFlowFromEcall, controlFlowFromJalr}
 use Rattle.join_laws.specs.Push.{push, pushed}
-use Rattle.join_laws.specs.Active.{on, Bit, Given}
+use Rattle.join_laws.specs.Active.{on, Bit, KnownBits}
 use Rattle.join_laws.proofs.Pushed.{longer, value-ite, value-and, value-eq, value-state, bit-kept, and-bits, comp-bit, comp-on}
 
 module _ (env : Env) where
@@ -31,7 +31,7 @@ module _ (env : Env) where
     pub place : r .value < length (r .state)
     pub is : on env (r .state) (r .value) ≡ (a || on env xs flow)
 
-  pub given-kept : {xs : List (Op ℕ)} (zs : List (Op ℕ)) {b : Bits ℕ} → Given env xs b → Given env (xs ++ zs) b
+  pub given-kept : {xs : List (Op ℕ)} (zs : List (Op ℕ)) {b : Bits ℕ} → KnownBits env xs b → KnownBits env (xs ++ zs) b
   given-kept {xs} zs {b} g = record {
     zero = rw length-append (omega (arith, g .zero));
     one = rw length-append (omega (arith, g .one));
@@ -48,7 +48,7 @@ module _ (env : Env) where
       go true = rw e
       go false = refl
 
-  module _ (xs : List (Op ℕ)) (b : Bits ℕ) (g : Given env xs b) where
+  module _ (xs : List (Op ℕ)) (b : Bits ℕ) (g : KnownBits env xs b) where
     pub any : (activate flow : ℕ) → activate < length xs → flow < length xs → Stepped xs flow (on env xs activate) (pushed xs (controlFlowFromAny b activate flow))
     unfolding controlFlowFromAny
     any activate flow ha hf = go (b .isZero flow) refl
@@ -98,7 +98,7 @@ module _ (env : Env) where
       swap false true z = refl
       swap false false z = refl
 
-  module _ (xs : List (Op ℕ)) (b : Bits ℕ) (g : Given env xs b) (flow : ℕ) (hf : flow < length xs) where
+  module _ (xs : List (Op ℕ)) (b : Bits ℕ) (g : KnownBits env xs b) (flow : ℕ) (hf : flow < length xs) where
     pub regular : (flag : ℕ) → flag < length xs → Stepped xs flow (on env xs flag) (pushed xs (controlFlowFromRegular b flag flow))
     unfolding controlFlowFromRegular
     regular flag h = any xs b g flag flow h hf
@@ -116,7 +116,7 @@ module _ (env : Env) where
     unfolding controlFlowFromBranch _>>=_
     branched flag condition hf hc = anded flag condition hf hc
 
-  module _ (xs : List (Op ℕ)) (b : Bits ℕ) (g : Given env xs b) (flow : ℕ) (hf : flow < length xs) where
+  module _ (xs : List (Op ℕ)) (b : Bits ℕ) (g : KnownBits env xs b) (flow : ℕ) (hf : flow < length xs) where
     pub jumped : (register dynamic pc : ℕ) → Bit env xs dynamic
         → Stepped xs flow (on env xs dynamic && eqb (value env xs register .num) (value env xs pc .num)) (pushed xs (controlFlowFromJalr b register dynamic pc flow))
     unfolding controlFlowFromJalr _>>=_

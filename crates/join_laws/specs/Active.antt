@@ -9,8 +9,8 @@ use Rattle.btor2.specs.Op.{Op}
 use Rattle.btor2.specs.Value.{Env, value}
 use Rattle.edges.specs.Edges.{branchOrigin, syscallOrigin}
 use Rattle.control_flow.specs.ControlFlow.{Bits, Kernel, controlFlowFromJalr}
-use Rattle.join.specs.Program.{Edge, Dispatch, fromEdge, joinEdges, joinDispatches, join}
-use Rattle.join.specs.Program.{nameText}
+use Rattle.join.specs.Program.{Edge, Dispatch, fromEdge, joinEdges, joinDispatches, joinAddress}
+use Rattle.join.specs.Program.{edgeName}
 use Rattle.join_laws.specs.Push.{pushed}
 
 module _ (env : Env) where
@@ -24,7 +24,7 @@ module _ (env : Env) where
     pub bound : value env xs p .num < 2
 
   -- the zero and the one are, and the flow is known by the zero's own place
-  pub record Given (xs : List (Op ℕ)) (b : Bits ℕ) : Type 0 where
+  pub record KnownBits (xs : List (Op ℕ)) (b : Bits ℕ) : Type 0 where
     pub zero : b .zero < length xs
     pub one : b .one < length xs
     pub isZero : (p : ℕ) → b .isZero p ≡ eqb p (b .zero)
@@ -43,7 +43,7 @@ module _ (env : Env) where
     anyActive b k xs at [] flow = false
     anyActive b k xs at (x ∷ es) flow =
         let r = pushed xs (fromEdge b k flagOf at x flow) in
-        activeEdge k xs x || anyActive b k (r .state) (at + length (nameText (x .origin) (x .from))) es (r .value)
+        activeEdge k xs x || anyActive b k (r .state) (at + length (edgeName (x .origin) (x .from))) es (r .value)
 
     -- what an edge refers to, is
     pub record Sound (k : Kernel ℕ) (xs : List (Op ℕ)) (x : Edge ℕ) : Type 0 where
@@ -90,13 +90,13 @@ NoSyscall (x ∷ es) = (x .origin ≡ syscallOrigin → ⊥) × NoSyscall es
 -- "the result is 1 exactly when an edge is active [..] or the starting flow was 1": every join
 abbrev pub JoinMeans : Type 0
 JoinMeans = (env : Env) (xs : List (Op ℕ)) (b : Bits ℕ) (k : Kernel ℕ) (flagOf registers dynamics : ℕ → ℕ) (at : ℕ) (es : List (Edge ℕ)) (ds : List (Dispatch ℕ)) (flow : ℕ)
-    → Given env xs b → Bit env xs (k .none) → AllSound env flagOf k xs es → AllReached env registers dynamics xs ds → flow < length xs
-    → let r = pushed xs (join b k flagOf registers dynamics at es ds flow) in
+    → KnownBits env xs b → Bit env xs (k .none) → AllSound env flagOf k xs es → AllReached env registers dynamics xs ds → flow < length xs
+    → let r = pushed xs (joinAddress b k flagOf registers dynamics at es ds flow) in
     on env (r .state) (r .value) ≡ ((anyActive env flagOf b k xs at es flow || anyDispatched env registers dynamics xs ds) || on env xs flow)
 
 -- regular and branch edges, no dispatch
 abbrev pub PlainMeans : Type 0
 PlainMeans = (env : Env) (xs : List (Op ℕ)) (b : Bits ℕ) (k : Kernel ℕ) (flagOf registers dynamics : ℕ → ℕ) (at : ℕ) (es : List (Edge ℕ)) (flow : ℕ)
-    → Given env xs b → Bit env xs (k .none) → AllSound env flagOf k xs es → NoSyscall es → flow < length xs
-    → let r = pushed xs (join b k flagOf registers dynamics at es [] flow) in
+    → KnownBits env xs b → Bit env xs (k .none) → AllSound env flagOf k xs es → NoSyscall es → flow < length xs
+    → let r = pushed xs (joinAddress b k flagOf registers dynamics at es [] flow) in
     on env (r .state) (r .value) ≡ (anyPlain env flagOf xs es || on env xs flow)

@@ -18,36 +18,36 @@ use Rattle.roles.specs.Roles.{role, zeroBit, oneBit, roleCount, registerNode}
 use Rattle.roles_check.specs.RolesFit.{rolesFit}
 use Rattle.join.specs.Program.{namesOf}
 use Rattle.join.specs.Given.{dynamicFor}
-use Rattle.join.specs.declared.Held.{Held}
-use Rattle.join.specs.Refusal.{Lent, Given, edgesOf, dispatchesOf, flagOf, bitsIn, kernelIn, programOf, lineCount, refusalOf}
-use Rattle.join.specs.Join.{Answer, joining}
+use Rattle.join.specs.declared.JoinHeld.{JoinHeld}
+use Rattle.join.specs.Refusal.{JoinLent, JoinInput, edgesOf, dispatchesOf, flagOf, bitsIn, kernelIn, joinProgram, joinLineCount, joinRefusal}
+use Rattle.join.specs.Join.{JoinAnswer, joining}
 use Rattle.join_laws.specs.Active.{on, anyActive, anyDispatched, anyPlain, NoSyscall}
 
 -- "where the zero-bit and one-bit nodes evaluate to 0 and 1": under the states and inputs env
-pub record ZeroAndOne (env : Env) (l : Lent) (h : Held) : Type 0 where
+pub record ZeroAndOne (env : Env) (l : JoinLent) (h : JoinHeld) : Type 0 where
   pub zero : value env (operators (l .list) (h .state .tally .lines)) (role (h .state .roles) zeroBit .0) .num ≡ 0
   pub one : value env (operators (l .list) (h .state .tally .lines)) (role (h .state .roles) oneBit .0) .num ≡ 1
 
-module _ (l : Lent) (h : Held) (g : Given) where
+module _ (l : JoinLent) (h : JoinHeld) (g : JoinInput) where
   abbrev before : List (Op ℕ)
   before = operators (l .list) (h .state .tally .lines)
 
-  abbrev after : Answer → List (Op ℕ)
+  abbrev after : JoinAnswer → List (Op ℕ)
   after a = operators (a .lent .list) (a .held .state .tally .lines)
 
-  pub record AcceptedJoin (a : Answer) : Type 0 where
+  pub record AcceptedJoin (a : JoinAnswer) : Type 0 where
     pub refusal : a .refusal ≡ 0
     -- the lines of the join's program after those that stand, under the next identifiers
     pub nodes : view (a .lent .list) (a .held .state .tally .lines)
-        ≡ view (l .list) (h .state .tally .lines) ++ numbered (h .state .tally .nid) (linesOf (placeAfter (h .state .tally .lines)) 0 (programOf (h .state) g))
-    pub lines : a .held .state .tally .lines ≡ h .state .tally .lines + lineCount (h .state) g
-    pub nids : a .held .state .tally .nid ≡ h .state .tally .nid + taking (linesOf (placeAfter (h .state .tally .lines)) 0 (programOf (h .state) g))
+        ≡ view (l .list) (h .state .tally .lines) ++ numbered (h .state .tally .nid) (linesOf (placeAfter (h .state .tally .lines)) 0 (joinProgram (h .state) g))
+    pub lines : a .held .state .tally .lines ≡ h .state .tally .lines + joinLineCount (h .state) g
+    pub nids : a .held .state .tally .nid ≡ h .state .tally .nid + taking (linesOf (placeAfter (h .state .tally .lines)) 0 (joinProgram (h .state) g))
     pub roles : a .held .state .roles ≡ h .state .roles
     -- and they fit again, so that another call can follow
     pub fit : rolesFit (a .lent .list) (a .held .state .tally .lines) 0 (a .held .state .roles) ≡ true
     pub stored : a .held .state .tally .lines * stride ≤ length (a .lent .list)
     -- what is lent changes after what is in use, as far as is counted, and nowhere else
-    pub list : Elsewhere (h .state .tally .lines * stride) ((h .state .tally .lines + lineCount (h .state) g) * stride) (l .list) (a .lent .list)
+    pub list : Elsewhere (h .state .tally .lines * stride) ((h .state .tally .lines + joinLineCount (h .state) g) * stride) (l .list) (a .lent .list)
     pub names : Elsewhere (h .state .counts .names) (h .state .counts .names + length (namesOf (edgesOf g))) (l .names) (a .lent .names)
     pub sequentials : Elsewhere (h .sequentials) (a .held .sequentials) (l .sequentials) (a .lent .sequentials)
     -- every line meets the sort rule, and no value before changes
@@ -66,6 +66,6 @@ module _ (l : Lent) (h : Held) (g : Given) where
 
 -- the claim: of every accepted join on a list that meets the sort rule
 abbrev pub JoinsMean : Type 0
-JoinsMean = (l : Lent) (h : Held) (g : Given) → T (meetsSortRule (operators (l .list) (h .state .tally .lines)))
+JoinsMean = (l : JoinLent) (h : JoinHeld) (g : JoinInput) → T (meetsSortRule (operators (l .list) (h .state .tally .lines)))
     -- what the code's type of the roles gives: an array
-    → length (h .state .roles) ≡ roleCount → refusalOf l h g ≡ 0 → AcceptedJoin l h g (joining l h g)
+    → length (h .state .roles) ≡ roleCount → joinRefusal l h g ≡ 0 → AcceptedJoin l h g (joining l h g)

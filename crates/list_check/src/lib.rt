@@ -1,4 +1,6 @@
 // The checks over a whole list of lines: refusal 11.
+use btor2::BIT;
+use btor2::MEMORY;
 use btor2::MaybeSort;
 use btor2::NodeType;
 use btor2::get_sort;
@@ -50,11 +52,6 @@ ghost use Rattle.btor2_list.specs.Node.{opOf};
 ghost use Rattle.list_check.specs.Lines.{any};
 ghost use Rattle.list_check.specs.Formed.{nameOutside, hasValue, opUnformed, unformedWords};
 ghost use Rattle.list_check.specs.Scan.{outBefore, nameLength, scanLine, checkedLine, outAt};
-
-// The numbers of the first and the last sort that the builder writes.
-const BIT: u64 = 1;
-
-const MEMORY: u64 = 3;
 
 // An Ext from Memory as one number, kind * 32 + sort, so that one comparison tells it.
 const EXT_FROM_MEMORY: u64 = EXT * 32 + MEMORY;

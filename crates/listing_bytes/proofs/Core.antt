@@ -28,7 +28,8 @@ use Rattle.text.proofs.Laws.{bad-name-length}
 use Rattle.lowering_refusals.specs.declared.Counts.{Counts}
 use Rattle.lowering_refusals.specs.declared.Room.{Room}
 use Rattle.lowering_refusals.specs.declared.State.{State}
-use Rattle.lowering_refusals.specs.Refusal.{mostLines, needsOf, needs, roomOut, refusalOf}
+use Rattle.lowering_refusals.specs.Refusal.{needsOf, needs, roomOut, refusalOf}
+use Rattle.btor2_list.specs.Limits.{mostLines}
 use Rattle.btor2_name.specs.NameBytes.{ourArea}
 use Rattle.lowering_lines.specs.Lines.{nameFor, programFrom}
 use Rattle.lowering.specs.Lowering.{Lent, Answer, programOf, countsAfter, settled, roomIn, refused, loweringGiven, lowering}

@@ -20,7 +20,8 @@ use Rattle.nid_check.specs.Identifiers.{taken, rising, nidsOut}
 use Rattle.riscv.specs.Refusal.{first}
 use Rattle.roles_check.specs.RolesFit.{rolesFit}
 use Rattle.lowering_refusals.specs.declared.Room.{Room}
-use Rattle.lowering_refusals.specs.Refusal.{mostStartNid, roomOf, countsOut}
+use Rattle.lowering_refusals.specs.Refusal.{roomOf, countsOut}
+use Rattle.btor2_list.specs.Limits.{mostStartNid}
 use Rattle.lowering_laws.specs.Lines.{numbered}
 use Rattle.start.specs.Start.{startRefusal}
 use Rattle.listing_start.specs.Start.{startNames, concat, hostArea, startName, namedStates, startOps, records, startWords, startIn, fromOn, startRoles, startState}

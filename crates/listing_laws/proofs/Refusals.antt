@@ -26,7 +26,8 @@ use Rattle.listing_line.specs.declared.Parsed.the-variants.{Instruction as Inst
 use Rattle.listing_line.specs.Line.{parseLine}
 use Rattle.listing_start.specs.Start.{firstNid, startLines, placed, startNames, concat, startName, namedStates, startOps, startIn, startState}
 use Rattle.lowering_refusals.specs.declared.State.{State}
-use Rattle.lowering_refusals.specs.Refusal.{mostLines, mostNid, roomOf, countsOut, flagOut, refusalGiven, refusalOf}
+use Rattle.lowering_refusals.specs.Refusal.{roomOf, countsOut, flagOut, refusalGiven, refusalOf}
+use Rattle.btor2_list.specs.Limits.{mostLines, mostNid}
 use Rattle.lowering.specs.Lowering.{Lent, roomIn, lowering}
 use Rattle.lowering_laws.specs.Lines.{numbered}
 use Rattle.lowering_laws.proofs.OneCall.{when-accepted, when-refused}

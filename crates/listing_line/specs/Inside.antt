@@ -13,8 +13,8 @@ unfoldable pub packed : List ℕ → ℕ
 packed [] = 1
 packed (b ∷ bs) = packed bs * 256 + b
 
-unfoldable pub kindWords : List ℕ
-kindWords = map packed kindNames
+unfoldable pub packedNames : List ℕ
+packedNames = map packed kindNames
 
 -- `instruction`, of fields that are read
 abbrev pub assembled : Number → Bool → ℕ → Number → Number → Number → Number → Parsed

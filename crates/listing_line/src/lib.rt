@@ -5,7 +5,7 @@ ghost use Prim.Native.Nat.{_+_, _<_, _≤_};
 ghost use lib.ListN.{length, getD};
 ghost use Rattle.listing_line.specs.Text.{split, before, numberBelow};
 ghost use Rattle.listing_line.specs.Kinds.{kindCode};
-ghost use Rattle.listing_line.specs.Inside.{packed, kindWords, assembled};
+ghost use Rattle.listing_line.specs.Inside.{packed, packedNames, assembled};
 ghost use Rattle.listing_line.specs.Line.{parseLine};
 ghost use Rattle.listing_line.specs.Line.{letter as Line·letter};
 ghost use Rattle.listing_line.specs.Line.{letters as Line·letters};
@@ -288,7 +288,7 @@ const KINDS: [u64; 50] = [
 
 fn kind_word(k: usize) -> u64
     requires { ⌜ k < 50 ⌝ }
-    ensures { λ r. ⌜ r ≡ getD kindWords k 0 ⌝ }
+    ensures { λ r. ⌜ r ≡ getD packedNames k 0 ⌝ }
 {
     KINDS[k]
 }

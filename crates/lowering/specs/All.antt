@@ -15,12 +15,12 @@ use Rattle.state_words.specs.Words.{stateWords, stateIn, withState}
 abbrev pub callWords : ℕ
 callWords = 7
 
-pub record Call : Type 0 where
+pub record LowerCall : Type 0 where
   pub instruction : Instruction
   pub address : ℕ
   pub flag : NodeRef
 
-abbrev pub callIn : List ℕ → Call
+abbrev pub callIn : List ℕ → LowerCall
 callIn ws = record {
   instruction = record { kind = getD ws 1 0; rd = getD ws 2 0; rs1 = getD ws 3 0; rs2 = getD ws 4 0; imm = getD ws 5 0 };
   address = getD ws 0 0;
@@ -28,7 +28,7 @@ callIn ws = record {
 }
 
 -- the first n calls of words
-unfoldable pub callsIn : ℕ → List ℕ → List Call
+unfoldable pub callsIn : ℕ → List ℕ → List LowerCall
 callsIn zero ws = []
 callsIn (suc n) ws = callIn ws ∷ callsIn n (drop callWords ws)
 
@@ -45,7 +45,7 @@ abbrev pub answerAll : ℕ → ℕ → State → Lent → AnswerAll
 answerAll done n st l = record { done = done; refusal = n; state = st; lent = l }
 
 -- after `done` calls that were accepted
-unfoldable pub loweringOn : ℕ → Lent → State → List Call → AnswerAll
+unfoldable pub loweringOn : ℕ → Lent → State → List LowerCall → AnswerAll
 loweringOn done l st [] = answerAll done 0 st l
 loweringOn done l st (c ∷ cs) =
     let a = lowering l st (c .instruction) (c .address) (c .flag) in

@@ -8,7 +8,8 @@ use Rattle.builder.specs.declared.Tally.{Tally}
 use Rattle.riscv.specs.declared.Instruction.{Instruction}
 use Rattle.lowering_refusals.specs.declared.Counts.{Counts}
 use Rattle.lowering_refusals.specs.declared.Room.{Room}
-use Rattle.lowering_refusals.specs.Refusal.{mostNid, needs, roomOf, refusalGiven}
+use Rattle.lowering_refusals.specs.Refusal.{needs, roomOf, refusalGiven}
+use Rattle.btor2_list.specs.Limits.{mostNid}
 use Rattle.lowering_refusals.proofs.Within.{within}
 use Rattle.lowering_refusals.proofs.Accepted.{counts-in, roomy}
 use Rattle.lowering_calls.specs.Bounds.{Ready}

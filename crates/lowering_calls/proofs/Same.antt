@@ -14,7 +14,7 @@ use Rattle.lowering_refusals.specs.Refusal.{refusalOf}
 use Rattle.lowering.specs.Lowering.{Lent, Answer, roomIn, lowering}
 use Rattle.state_words.specs.Words.{stateWords, rolesIn, stateIn, withState}
 use Rattle.lowering.specs.Words.{Given, givenBy}
-use Rattle.lowering.specs.All.{Call, callWords, callsIn, AnswerAll, answerAll, loweringOn, loweringAll, GivenAll, givenAll, allBy}
+use Rattle.lowering.specs.All.{LowerCall, callWords, callsIn, AnswerAll, answerAll, loweringOn, loweringAll, GivenAll, givenAll, allBy}
 use Rattle.state_words.proofs.Words.{size-in, state-kept, put-again, put-length}
 use Rattle.lowering.proofs.Words.{read-back}
 use Rattle.roles_kept.proofs.Passed.{roles-in}
@@ -30,7 +30,7 @@ sized ws = size-in ws
 abbrev pub Fits : Lent → State → Bool
 Fits l st = rolesFit (l .list) (st .tally .lines) 0 (st .roles)
 
-module _ (l : Lent) (st : State) (c : Call) (size : length (st .roles) ≡ roleCount) (accepted : lowering l st (c .instruction) (c .address) (c .flag) .lowered .refusal ≡ 0) where
+module _ (l : Lent) (st : State) (c : LowerCall) (size : length (st .roles) ≡ roleCount) (accepted : lowering l st (c .instruction) (c .address) (c .flag) .lowered .refusal ≡ 0) where
   none : refusalOf (l .list) (roomIn l) st (c .instruction) (c .address) (c .flag .0) ≡ 0
   none = sym (refusal-is l st (c .instruction) (c .address) (c .flag)) ∙ accepted
 
@@ -40,28 +40,28 @@ module _ (l : Lent) (st : State) (c : Call) (size : length (st .roles) ≡ roleC
   fits-on : Fits l st ≡ Fits (lowering l st (c .instruction) (c .address) (c .flag) .lent) (lowering l st (c .instruction) (c .address) (c .flag) .lowered .state)
   fits-on = roles-in (l .list) (roomIn l) st (c .instruction) (c .address) (c .flag .0) none ∙ sym (roles-keep l st (c .instruction) (c .address) (c .flag) size accepted)
 
-by-words : (fits : Bool) (l : Lent) (ws : List ℕ) (c : Call) → stateWords ≤ length ws → fits ≡ Fits l (stateIn ws)
+by-words : (fits : Bool) (l : Lent) (ws : List ℕ) (c : LowerCall) → stateWords ≤ length ws → fits ≡ Fits l (stateIn ws)
     → knownWords fits l ws (c .instruction) (c .address) (c .flag) ≡ givenBy ws (lowering l (stateIn ws) (c .instruction) (c .address) (c .flag))
 unfolding knownWords
 by-words fits l ws c h e = rw (le-ltb (length ws) stateWords h, e)
 
 -- ---- all calls
 
-abbrev thenWords : Bool → ℕ → List Call → Given → GivenAll
+abbrev thenWords : Bool → ℕ → List LowerCall → Given → GivenAll
 thenWords fits done cs x = elim (eqb (x .refusal) 0) [ true ↦ wordsOn fits (done + 1) (x .lent) (x .state) cs | false ↦ givenAll done (x .refusal) (x .lent) (x .state) ]
 
-abbrev thenOn : ℕ → List Call → Answer → AnswerAll
+abbrev thenOn : ℕ → List LowerCall → Answer → AnswerAll
 thenOn done cs a =
     elim (eqb (a .lowered .refusal) 0) [
       | true ↦ loweringOn (done + 1) (a .lent) (a .lowered .state) cs
       | false ↦ answerAll done (a .lowered .refusal) (a .lowered .state) (a .lent)
     ]
 
-abbrev Same : Bool → ℕ → Lent → List ℕ → List Call → Type 0
+abbrev Same : Bool → ℕ → Lent → List ℕ → List LowerCall → Type 0
 Same fits done l ws cs = stateWords ≤ length ws → fits ≡ Fits l (stateIn ws) → wordsOn fits done l ws cs ≡ allBy ws (loweringOn done l (stateIn ws) cs)
 
 -- after one call, from what is left
-after : (fits : Bool) (done : ℕ) (l : Lent) (ws : List ℕ) (c : Call) (cs : List Call) → ((l′ : Lent) (ws′ : List ℕ) → Same fits (done + 1) l′ ws′ cs) → stateWords ≤ length ws → fits ≡ Fits l (stateIn ws)
+after : (fits : Bool) (done : ℕ) (l : Lent) (ws : List ℕ) (c : LowerCall) (cs : List LowerCall) → ((l′ : Lent) (ws′ : List ℕ) → Same fits (done + 1) l′ ws′ cs) → stateWords ≤ length ws → fits ≡ Fits l (stateIn ws)
     → thenWords fits done cs (givenBy ws (lowering l (stateIn ws) (c .instruction) (c .address) (c .flag))) ≡ allBy ws (thenOn done cs (lowering l (stateIn ws) (c .instruction) (c .address) (c .flag)))
 after fits done l ws c cs rest h e = go (eqb (a .lowered .refusal) 0) refl
   where
@@ -82,7 +82,7 @@ after fits done l ws c cs rest h e = go (eqb (a .lowered .refusal) 0) refl
         ∙ ap (givenAll (end .done) (end .refusal) (end .lent)) (put-again ws (a .lowered .state) (end .state) size)
     go false q = refl
 
-same-on : (cs : List Call) (fits : Bool) (done : ℕ) (l : Lent) (ws : List ℕ) → Same fits done l ws cs
+same-on : (cs : List LowerCall) (fits : Bool) (done : ℕ) (l : Lent) (ws : List ℕ) → Same fits done l ws cs
 unfolding wordsOn loweringOn
 same-on [] fits done l ws h e = ap (givenAll done 0 l) (sym (state-kept ws h))
 same-on (c ∷ cs) fits done l ws h e = ap (thenWords fits done cs) (by-words fits l ws c h e) ∙ after fits done l ws c cs (λ l′ ws′. same-on cs fits (done + 1) l′ ws′) h e

@@ -10,7 +10,7 @@ use lib.ListN.{length, drop}
 use lib.Seq.{drop-drop}
 use Rattle.lowering.specs.Lowering.{Lent}
 use Rattle.lowering.specs.Words.{Given}
-use Rattle.lowering.specs.All.{Call, callIn, callsIn, GivenAll, givenAll}
+use Rattle.lowering.specs.All.{LowerCall, callIn, callsIn, GivenAll, givenAll}
 use Rattle.lowering_calls.specs.Known.{knownWords, wordsOn, wordsAll}
 
 -- at the start
@@ -31,7 +31,7 @@ pub ends : (fits : Bool) (n k : ℕ) (l : Lent) (ws calls : List ℕ) → n ≤ 
 unfolding callsIn wordsOn
 ends fits n k l ws calls h = let none : n - k ≡ 0 = omega arith in rw none
 
-module _ (fits : Bool) (l : Lent) (ws : List ℕ) (c : Call) (g : Given) (is : g ≡ knownWords fits l ws (c .instruction) (c .address) (c .flag)) (done : ℕ) (cs : List Call) where
+module _ (fits : Bool) (l : Lent) (ws : List ℕ) (c : LowerCall) (g : Given) (is : g ≡ knownWords fits l ws (c .instruction) (c .address) (c .flag)) (done : ℕ) (cs : List LowerCall) where
   -- what is made of an answer
   abbrev then : Given → GivenAll
   then x = elim (eqb (x .refusal) 0) [ true ↦ wordsOn fits (done + 1) (x .lent) (x .state) cs | false ↦ givenAll done (x .refusal) (x .lent) (x .state) ]

@@ -5,7 +5,8 @@ use Rattle.builder.specs.declared.Tally.{Tally}
 use Rattle.riscv.specs.declared.Instruction.{Instruction}
 use Rattle.lowering_refusals.specs.declared.Counts.{Counts}
 use Rattle.lowering_refusals.specs.declared.Room.{Room}
-use Rattle.lowering_refusals.specs.Refusal.{mostLines, needs}
+use Rattle.lowering_refusals.specs.Refusal.{needs}
+use Rattle.btor2_list.specs.Limits.{mostLines}
 
 pub record Added (c : Counts) (n : Room) : Type 0 where
   pub names : c .names + n .names < 2 ^ 64

@@ -9,14 +9,14 @@ use Rattle.riscv.specs.declared.Instruction.{Instruction}
 use Rattle.lowering.specs.Lowering.{Lent, loweringGiven}
 use Rattle.state_words.specs.Words.{stateWords, stateIn}
 use Rattle.lowering.specs.Words.{Given, given, givenBy}
-use Rattle.lowering.specs.All.{Call, callWords, callsIn, GivenAll, givenAll}
+use Rattle.lowering.specs.All.{LowerCall, callWords, callsIn, GivenAll, givenAll}
 
 -- ---- one call, and many, where it is known whether the roles fit
 
 unfoldable pub knownWords : Bool → Lent → List ℕ → Instruction → ℕ → NodeRef → Given
 knownWords fits l ws i pc flag = cond (ltb (length ws) stateWords) (given 9 l ws) (givenBy ws (loweringGiven fits l (stateIn ws) i pc flag))
 
-unfoldable pub wordsOn : Bool → ℕ → Lent → List ℕ → List Call → GivenAll
+unfoldable pub wordsOn : Bool → ℕ → Lent → List ℕ → List LowerCall → GivenAll
 wordsOn fits done l ws [] = givenAll done 0 l ws
 wordsOn fits done l ws (c ∷ cs) =
     let g = knownWords fits l ws (c .instruction) (c .address) (c .flag) in

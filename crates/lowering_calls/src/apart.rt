@@ -1,12 +1,13 @@
 // A call apart from the roles: by what the instruction reads of them, what it gives to be set.
 use btor2::NodeRef;
+use btor2_list::MOST_NID;
 use builder::Tally;
 use instruction_class::Class;
 use instruction_class::class_of;
 use instruction_class::is_indirect;
 use lowering_lines::lower_lines;
+use lowering_refusals::BAD_COUNT;
 use lowering_refusals::Counts;
-use lowering_refusals::MOST_NID;
 use lowering_refusals::Room;
 use lowering_refusals::counts_out;
 use lowering_refusals::room_of;
@@ -22,7 +23,8 @@ ghost use Rattle.riscv.specs.Refusal.{first};
 ghost use Prim.Native.Nat.{ℕ, _+_, _≤_};
 ghost use Rattle.builder.specs.Append.{at, append};
 ghost use Rattle.program.specs.Prog.{exec};
-ghost use Rattle.lowering_refusals.specs.Refusal.{mostLines, mostNid, countsOut};
+ghost use Rattle.lowering_refusals.specs.Refusal.{countsOut};
+ghost use Rattle.btor2_list.specs.Limits.{mostLines, mostNid};
 ghost use Rattle.lowering_lines.specs.Lines.{programFrom};
 ghost use Rattle.lowering.specs.Lowering.{lent, linkLines, namesAfter, dispatchesAfter, badsAfter, countsAfter};
 ghost use Rattle.lowering_calls.specs.Bounds.{Added, Ready};
@@ -94,7 +96,7 @@ fn refuse(room: Room, t: Tally, c: Counts, fits: bool, number: u64) -> u64
     ensures { λ r. ⌜ ((ts : List (Bool × ℕ)) → number ≡ first ts → r ≡ first ((countsOut mostNid room t c, 9) ∷ (not fits, 13) ∷ ts)) ⌝ }
 {
     if counts_out(MOST_NID, room, t, c) {
-        return 9;
+        return BAD_COUNT;
     }
     if !fits {
         return 13;

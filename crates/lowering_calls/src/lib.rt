@@ -6,6 +6,7 @@ use apart::Apart;
 use apart::lower_apart;
 use btor2::NodeRef;
 use lowering::Lowered;
+use lowering_refusals::BAD_COUNT;
 use lowering_refusals::State;
 use riscv::Instruction;
 use state_words::STATE_WORDS;
@@ -26,9 +27,6 @@ pub const CALL: usize = 7;
 
 // The flag of a call that has none: a place that no list reaches.
 pub const NO_FLAG: NodeRef = NodeRef(0xffff_ffff_ffff_ffff);
-
-// A count above its storage.
-const BAD_COUNT: u64 = 9;
 
 // How many calls were accepted, and the refusal of the next one, 0 where there is none.
 pub struct Stopped {

@@ -27,7 +27,7 @@ use Rattle.lowering.specs.Lowering.{Lent, lent, Answer, answer, programOf, sett
 use Rattle.lowering_refusals.proofs.Accepted as A
 use Rattle.lowering_entry.specs.declared.InEdge.{InEdge}
 use Rattle.lowering_entry.specs.InEdges.{edgeWords}
-use Rattle.lowering_entry.specs.Parts.{edgeAt, appended, usedOf, withEdges, takenApart, Counted, Rejoined}
+use Rattle.lowering_entry.specs.Parts.{edgeAt, appended, usedOf, withEdges, takenApart, EdgesCounted, Rejoined}
 use Rattle.lowering_entry.proofs.Words.{records, put-words}
 
 -- the core's own words: two records
@@ -169,7 +169,7 @@ module _ (l n d b : List ℕ) (es : List InEdge) (st : State) (i : Instruction) 
 
 -- the sums fit: for this a list of any records of the same length will do
 pub counted : (l n d b : List ℕ) (st : State) (i : Instruction) (pc : ℕ) (flag : NodeRef) (u room : ℕ) → u ≡ usedOf (st .counts .edges) room → st .counts .edges < 2 ^ 64 → room < 2 ^ 64
-    → (a : Answer) → a ≡ lowering (lent l n zeros d b) (withEdges st u) i pc flag → Counted (a .lowered) (st .counts .edges) u
+    → (a : Answer) → a ≡ lowering (lent l n zeros d b) (withEdges st u) i pc flag → EdgesCounted (a .lowered) (st .counts .edges) u
 counted l n d b st i pc flag u room is count-fits room-fits a e =
     let es : List InEdge = replicate room (edgeOf 0 0 0 0) in
     let long : length es ≡ room = length-replicate room (edgeOf 0 0 0 0) in

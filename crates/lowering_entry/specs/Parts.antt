@@ -42,7 +42,7 @@ takenApart r count used ws =
     }
 
 -- the sums of `taken_apart` fit
-pub record Counted (r : Lowered) (count used : ℕ) : Type 0 where
+pub record EdgesCounted (r : Lowered) (count used : ℕ) : Type 0 where
   pub few : used ≤ 3
   pub more : used ≤ r .state .counts .edges
   pub fits : count + (r .state .counts .edges - used) < 2 ^ 64

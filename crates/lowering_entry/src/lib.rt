@@ -11,7 +11,7 @@ ghost use mathlib.Core.List.{List};
 ghost use lib.ListN.{length};
 ghost use Rattle.lowering.specs.Lowering.{lent, answer, lowering};
 ghost use Rattle.lowering_entry.specs.InEdges.{edgeWords};
-ghost use Rattle.lowering_entry.specs.Parts.{edgeAt, appended, withEdges, usedOf, takenApart, Counted, Rejoined};
+ghost use Rattle.lowering_entry.specs.Parts.{edgeAt, appended, withEdges, usedOf, takenApart, EdgesCounted, Rejoined};
 
 // An in-edge: the address it leads to, the one it comes from, its origin (one of `edges`' REGULAR, BRANCH and SYSCALL) and its condition's
 // place, NO_CONDITION where there is none.
@@ -108,7 +108,7 @@ fn lower_apart(
 
 // What the core gave, with the count of edges after those that were there, and the edges out of their words.
 fn taken_apart(r: Lowered, count: usize, used: usize, words: [u64; 8]) -> Apart
-    requires { ⌜ Counted r count used ⌝ }
+    requires { ⌜ EdgesCounted r count used ⌝ }
     ensures { λ a. ⌜ a ≡ takenApart r count used words ⌝ }
 {
     let after = r.state;

@@ -18,7 +18,7 @@ use Rattle.btor2_list.proofs.View.{node-back, view-put}
 use Rattle.btor2_list.proofs.Fitting.{areaFits, line-fits}
 use Rattle.program.specs.Prog.{Prog, done, line, Run, ran, exec}
 use Rattle.builder.specs.declared.Tally.{Tally}
-use Rattle.builder.specs.Append.{Store, at, takenBy, appendLine, append}
+use Rattle.builder.specs.Append.{Store, at, nidsTaken, appendLine, append}
 use Rattle.program.specs.Lines.{linesOf, resultOf, placeAfter}
 use Rattle.lowering_laws.specs.Lines.{taking, numbered}
 use Rattle.lowering_laws.proofs.Growth.{fitting}
@@ -30,7 +30,7 @@ pub record Room (ws : List ℕ) (t : Tally) (m d : ℕ) : Type 0 where
 
 -- ---- identifiers: the append counts by the record what the line takes
 
-taken-bin : (o : Bin) → takenBy (binKind o) 0 ≡ 1
+taken-bin : (o : Bin) → nidsTaken (binKind o) 0 ≡ 1
 taken-bin O.add = refl
 taken-bin O.sub = refl
 taken-bin O.mul = refl
@@ -41,7 +41,7 @@ taken-bin O.sll = refl
 taken-bin O.srl = refl
 taken-bin O.ult = refl
 
-taken-line : (nid : ℕ) (o : Op ℕ) → takenBy (lineOf nid o .kind) (lineOf nid o .imm) ≡ identifiers o
+taken-line : (nid : ℕ) (o : Op ℕ) → nidsTaken (lineOf nid o .kind) (lineOf nid o .imm) ≡ identifiers o
 taken-line nid (O.const s n) = refl
 taken-line nid (O.read m a) = refl
 taken-line nid (O.write m a v) = refl

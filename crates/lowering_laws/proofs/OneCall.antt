@@ -15,7 +15,8 @@ use Rattle.instruction_class.proofs.Most.{at-most}
 use Rattle.riscv.specs.declared.Instruction.{Instruction}
 use Rattle.riscv.specs.Kind.{kindAt}
 use Rattle.lowering_refusals.specs.declared.State.{State}
-use Rattle.lowering_refusals.specs.Refusal.{mostNid, roomOf, needsOf, refusalOf}
+use Rattle.lowering_refusals.specs.Refusal.{roomOf, needsOf, refusalOf}
+use Rattle.btor2_list.specs.Limits.{mostNid}
 use Rattle.lowering_refusals.proofs.Within.{within}
 use Rattle.lowering_refusals.proofs.Accepted as A
 use Rattle.lowering_lines.specs.Lines.{nameFor, programFrom}

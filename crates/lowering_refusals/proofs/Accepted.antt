@@ -12,7 +12,8 @@ use Rattle.riscv.specs.Refusal.{refusal, first}
 use Rattle.riscv.proofs.First.{Tests, passes}
 use Rattle.lowering_refusals.specs.declared.Counts.{Counts}
 use Rattle.lowering_refusals.specs.declared.Room.{Room}
-use Rattle.lowering_refusals.specs.Refusal.{mostLines, mostNid, countsOut, needs, roomOut, flagOut, refusalGiven}
+use Rattle.lowering_refusals.specs.Refusal.{countsOut, needs, roomOut, flagOut, refusalGiven}
+use Rattle.btor2_list.specs.Limits.{mostLines, mostNid}
 use Rattle.lowering_refusals.proofs.Within.{neither}
 use Rattle.lowering_refusals.proofs.Tests.{from8, from7, fromRecord, from13}
 

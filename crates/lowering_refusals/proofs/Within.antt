@@ -7,7 +7,8 @@ use lib.Dec.{ltb}
 use Rattle.builder.specs.declared.Tally.{Tally}
 use Rattle.lowering_refusals.specs.declared.Counts.{Counts}
 use Rattle.lowering_refusals.specs.declared.Room.{Room}
-use Rattle.lowering_refusals.specs.Refusal.{mostLines, countsOut}
+use Rattle.lowering_refusals.specs.Refusal.{countsOut}
+use Rattle.btor2_list.specs.Limits.{mostLines}
 
 pub neither : (a b : Bool) → (a || b) ≡ false → (a ≡ false) × (b ≡ false)
 neither true b e = let z : true ≡ false = e in (z, cc)

@@ -1,11 +1,12 @@
 -- The refusals of a lowering (document 01, "Who can be refused, and with what"): "a lowering 9, 13, then 1 to 8. First match wins."
-use Prim.Native.Nat.{ℕ, _+_, _/_, _^_}
+use Prim.Native.Nat.{ℕ, _+_, _/_}
 use mathlib.Core.Bool.{Bool, cond, not, _&&_, _||_}
 use mathlib.Core.List.{List, [], _∷_}
 use lib.Dec.{eqb, ltb}
 use lib.ListN.{length}
 use Rattle.btor2.specs.declared.NodeType.the-variants.{Bit}
 use Rattle.btor2.specs.Sort.{sortNumber}
+use Rattle.btor2_list.specs.Limits.{mostLines, mostNid}
 use Rattle.btor2_list.specs.Record.{stride}
 use Rattle.btor2_list.specs.Look.{lookAt}
 use Rattle.builder.specs.declared.Tally.{Tally}
@@ -20,17 +21,6 @@ use Rattle.text.specs.BadName.{badName}
 use Rattle.lowering_refusals.specs.declared.Counts.{Counts}
 use Rattle.lowering_refusals.specs.declared.Room.{Room}
 use Rattle.lowering_refusals.specs.declared.State.{State}
-
--- "A list holds at most 1,048,576 lines"
-abbrev pub mostLines : ℕ
-mostLines = 1048576
-
--- "a start's next identifier is at most 2^31"; "above 2^31 + 2,097,152 at a lowering"
-abbrev pub mostStartNid : ℕ
-mostStartNid = 2 ^ 31
-
-abbrev pub mostNid : ℕ
-mostNid = mostStartNid + 2097152
 
 -- how many records or bytes lent storage of these lengths holds; a bad is one word
 unfoldable pub roomOf : ℕ → ℕ → ℕ → ℕ → ℕ → Room

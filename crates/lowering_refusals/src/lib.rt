@@ -1,5 +1,7 @@
 // What passes from call to call, how much lent storage holds, and the refusals of a lowering but 13, whose test is roles_check's.
+use btor2::BIT;
 use btor2::NodeRef;
+use btor2_list::MOST_LINES;
 use builder::Tally;
 use instruction_class::class_of;
 use instruction_class::is_indirect;
@@ -13,15 +15,8 @@ ghost use Prim.Native.Nat.{_+_};
 ghost use Rattle.riscv.specs.Kind.{kindAt};
 ghost use Rattle.riscv.specs.Refusal.{first};
 
-// The most lines that a list holds, and the largest next identifier at a start and at a lowering.
-pub const MOST_LINES: usize = 1_048_576;
-
-pub const MOST_START_NID: u64 = 2_147_483_648;
-
-pub const MOST_NID: u64 = 2_149_580_800;
-
-// The number of a Bit's sort.
-const BIT: u64 = 1;
+// The number of a count above its storage.
+pub const BAD_COUNT: u64 = 9;
 
 // How much of each lent list and of our name area is in use, the list of lines apart.
 pub struct Counts {

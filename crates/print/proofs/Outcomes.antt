@@ -10,28 +10,28 @@ use Rattle.text.specs.Put.{Put}
 use Rattle.text.proofs.Laws.{put-is}
 use Rattle.list_check.specs.Formed.{unformedWords}
 use Rattle.line_text.specs.Line.{nodes, runText}
-use Rattle.print.specs.Printing.{refused, written, outcome, boundsOut, printing}
+use Rattle.print.specs.Printing.{refused, written, printOutcome, boundsOut, printing}
 
 module _ (ws : List ℕ) (lines : ℕ) (host ours : List ℕ) (from count : ℕ) (out : List ℕ) where
   abbrev pub run : List ℕ
   run = runText host ours (nodes ws lines) from count
 
-  pub refused-9 : boundsOut ws lines from count ≡ true → outcome (refused 9) out ≡ printing ws lines host ours from count out
+  pub refused-9 : boundsOut ws lines from count ≡ true → printOutcome (refused 9) out ≡ printing ws lines host ours from count out
   unfolding printing
   refused-9 e = rw e
 
   module _ (in-bounds : boundsOut ws lines from count ≡ false) where
-    pub refused-11 : unformedWords ws lines (length host) (length ours) ≡ true → outcome (refused 11) out ≡ printing ws lines host ours from count out
+    pub refused-11 : unformedWords ws lines (length host) (length ours) ≡ true → printOutcome (refused 11) out ≡ printing ws lines host ours from count out
     unfolding printing
     refused-11 e = rw (in-bounds, e)
 
     module _ (formed : unformedWords ws lines (length host) (length ours) ≡ false) where
-      pub refused-14 : length out < length run → outcome (refused 14) out ≡ printing ws lines host ours from count out
+      pub refused-14 : length out < length run → printOutcome (refused 14) out ≡ printing ws lines host ours from count out
       unfolding printing
       refused-14 h = rw (in-bounds, formed, lt-ltb (length out) (length run) h)
 
       pub written-run : (out′ : List ℕ) (r n : ℕ) → Put out 0 run out′ r → n ≡ length run → length run ≤ length out
-          → outcome (written n) out′ ≡ printing ws lines host ours from count out
+          → printOutcome (written n) out′ ≡ printing ws lines host ours from count out
       unfolding printing
       written-run out′ r n put e h =
           let z : 0 + length run ≡ length run = omega arith in

@@ -1,10 +1,11 @@
 -- Printing a run of lines (document 01, "Who can be refused, and with what"): "printing a run of lines 9, 11 (both over the whole list), 14.
 -- First match wins."
-use Prim.Native.Nat.{ℕ, _+_, _^_}
+use Prim.Native.Nat.{ℕ, _+_}
 use mathlib.Core.Bool.{Bool, cond, _||_}
 use mathlib.Core.List.{List, _++_}
 use lib.Dec.{ltb}
 use lib.ListN.{length, drop}
+use Rattle.btor2_list.specs.Limits.{mostLines, mostNid}
 use Rattle.list_check.specs.Lines.{some, pastWords}
 use Rattle.list_check.specs.Formed.{unformedWords}
 use Rattle.line_text.specs.Line.{nodes, nidAt, runText}
@@ -12,36 +13,36 @@ use Rattle.print.specs.declared.Printed.{Printed}
 use Rattle.print.specs.declared.Printed.the-variants.{Refused, Written}
 
 -- the answer: "A refusal returns its number alone"; a text that is printed, its length
-pub data Answer : Type 0 where
-  refused : ℕ → Answer
-  written : ℕ → Answer
+pub data PrintAnswer : Type 0 where
+  refused : ℕ → PrintAnswer
+  written : ℕ → PrintAnswer
 
-abbrev pub answerOf : Printed → Answer
+abbrev pub answerOf : Printed → PrintAnswer
 answerOf (Refused number) = refused number
 answerOf (Written n) = written n
 
-pub record Outcome : Type 0 where
-  pub answer : Answer
+pub record PrintOutcome : Type 0 where
+  pub answer : PrintAnswer
   pub output : List ℕ
 
-abbrev pub outcome : Answer → List ℕ → Outcome
-outcome a out = record { answer = a; output = out }
+abbrev pub printOutcome : PrintAnswer → List ℕ → PrintOutcome
+printOutcome a out = record { answer = a; output = out }
 
 -- "a line's identifier above" 2^31 + 2,097,152
 abbrev pub nidTooLarge : List ℕ → ℕ → ℕ → Bool
-nidTooLarge ws lines p = ltb (2 ^ 31 + 2097152) (nidAt (nodes ws lines) p)
+nidTooLarge ws lines p = ltb mostNid (nidAt (nodes ws lines) p)
 
 unfoldable pub nidsTooLarge : List ℕ → ℕ → Bool
 nidsTooLarge ws lines = some lines (nidTooLarge ws lines)
 
 -- 9: "more than 1,048,576 lines; [..] a line's identifier above that sum or a run outside the list when printing; or a count above its storage"
 unfoldable pub boundsOut : List ℕ → ℕ → ℕ → ℕ → Bool
-boundsOut ws lines from count = ltb 1048576 lines || (pastWords ws lines || (ltb lines (from + count) || nidsTooLarge ws lines))
+boundsOut ws lines from count = ltb mostLines lines || (pastWords ws lines || (ltb lines (from + count) || nidsTooLarge ws lines))
 
 -- the first refusal that applies, with the output as it was; or the text of the run at the output's start, and after it what was there
-unfoldable pub printing : List ℕ → ℕ → List ℕ → List ℕ → ℕ → ℕ → List ℕ → Outcome
+unfoldable pub printing : List ℕ → ℕ → List ℕ → List ℕ → ℕ → ℕ → List ℕ → PrintOutcome
 printing ws lines host ours from count out =
     let text = runText host ours (nodes ws lines) from count in
-    cond (boundsOut ws lines from count) (outcome (refused 9) out)
-    (cond (unformedWords ws lines (length host) (length ours)) (outcome (refused 11) out)
-    (cond (ltb (length out) (length text)) (outcome (refused 14) out) (outcome (written (length text)) (text ++ drop (length text) out))))
+    cond (boundsOut ws lines from count) (printOutcome (refused 9) out)
+    (cond (unformedWords ws lines (length host) (length ours)) (printOutcome (refused 11) out)
+    (cond (ltb (length out) (length text)) (printOutcome (refused 14) out) (printOutcome (written (length text)) (text ++ drop (length text) out))))

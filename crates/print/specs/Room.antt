@@ -6,6 +6,7 @@ use mathlib.Core.List.{List}
 use lib.Dec.{ltb}
 use lib.ListN.{length}
 use Rattle.btor2.specs.Op.{Op, const, read, write, bin, uext, ite, eq, and, or, not, state, stateInit, next, input, bad, unknown}
+use Rattle.btor2_list.specs.Limits.{mostLines}
 use Rattle.btor2_list.specs.Record.{stride, lineAt}
 use Rattle.btor2_list.specs.Node.{opOf}
 use Rattle.list_check.specs.declared.Checked.{Checked}
@@ -51,7 +52,7 @@ roomWith (Named len) names r = names + (10 + len) ≤ r
 
 -- 9 but for the identifiers
 abbrev pub runOut : List ℕ → ℕ → ℕ → ℕ → Bool
-runOut ws lines from count = ltb 1048576 lines || (pastWords ws lines || ltb lines (from + count))
+runOut ws lines from count = ltb mostLines lines || (pastWords ws lines || ltb lines (from + count))
 
 -- the first n lines have neither 9 nor 11, and r has room for their names
 pub record Surveyed (ws : List ℕ) (lines host ours n r : ℕ) : Type 0 where

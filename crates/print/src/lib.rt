@@ -1,5 +1,7 @@
 // Prints a run of the list's lines into an output, or refuses.
 use btor2::NodeRef;
+use btor2_list::MOST_LINES;
+use btor2_list::MOST_NID;
 use list_check::Checked;
 ghost use mathlib.Core.Path.{_≡_};
 ghost use mathlib.Core.Bool.{true};
@@ -7,12 +9,7 @@ ghost use Prim.Native.Nat.{_+_, _-_, _/_, _^_, _<_, _≤_, min};
 ghost use lib.ListN.{length};
 ghost use Rattle.line_text.specs.Line.{nodes, runText};
 ghost use Rattle.print.specs.Room.{runOut, roomWith, Surveyed, Roomy};
-ghost use Rattle.print.specs.Printing.{nidsTooLarge, boundsOut, answerOf, outcome, printing};
-
-// The most lines that a list holds, and the largest identifier of a line.
-const MOST_LINES: usize = 1_048_576;
-
-const MOST_NID: u64 = 2_149_580_800;
+ghost use Rattle.print.specs.Printing.{nidsTooLarge, boundsOut, answerOf, printOutcome, printing};
 
 // The most bytes of a line of such an identifier, and how many more one with a name has besides the name: a State has a second row.
 const LINE_ROOM: usize = 53;
@@ -40,7 +37,7 @@ pub fn print<'a>(
     count: usize,
     out: &mut [u8],
 ) -> Printed
-    ensures { λ r. ⌜ outcome (answerOf r) (now (out .exit)) ≡ printing (now (list .entry)) lines (now (host .entry)) (now (ours .entry)) from count (now (out .entry)) ⌝ }
+    ensures { λ r. ⌜ printOutcome (answerOf r) (now (out .exit)) ≡ printing (now (list .entry)) lines (now (host .entry)) (now (ours .entry)) from count (now (out .entry)) ⌝ }
 {
     if roomy(list, lines, host.len(), ours.len(), from, count, out.len()) {
         let n = line_text::put_run(out, 0, list, lines, host, ours, from, count);

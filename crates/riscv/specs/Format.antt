@@ -60,14 +60,18 @@ format Jal = J
 format Jalr = I
 format Ecall = System
 
+-- x0 to x31
+abbrev pub lastRegister : ℕ
+lastRegister = 31
+
 -- "a register field the kind uses is above 31": R has rd, rs1 and rs2, I rd and rs1, S and B rs1 and rs2, U and J rd
 abbrev pub registersOut : Format → ℕ → ℕ → ℕ → Bool
-registersOut R rd rs1 rs2 = ltb 31 rd || (ltb 31 rs1 || ltb 31 rs2)
-registersOut I rd rs1 rs2 = ltb 31 rd || ltb 31 rs1
-registersOut S rd rs1 rs2 = ltb 31 rs1 || ltb 31 rs2
-registersOut B rd rs1 rs2 = ltb 31 rs1 || ltb 31 rs2
-registersOut U rd rs1 rs2 = ltb 31 rd
-registersOut J rd rs1 rs2 = ltb 31 rd
+registersOut R rd rs1 rs2 = ltb lastRegister rd || (ltb lastRegister rs1 || ltb lastRegister rs2)
+registersOut I rd rs1 rs2 = ltb lastRegister rd || ltb lastRegister rs1
+registersOut S rd rs1 rs2 = ltb lastRegister rs1 || ltb lastRegister rs2
+registersOut B rd rs1 rs2 = ltb lastRegister rs1 || ltb lastRegister rs2
+registersOut U rd rs1 rs2 = ltb lastRegister rd
+registersOut J rd rs1 rs2 = ltb lastRegister rd
 registersOut System rd rs1 rs2 = false
 
 -- a word, read as signed, is from -m to n

@@ -4,8 +4,11 @@ ghost use Prim.Native.Nat.{_<_};
 ghost use mathlib.Core.Bool.{_&&_, _||_, not};
 ghost use lib.Dec.{ltb, leb};
 ghost use Rattle.riscv.specs.Kind.{kindAt};
-ghost use Rattle.riscv.specs.Format.{format, registersOut, immediateOut, even};
+ghost use Rattle.riscv.specs.Format.{format, lastRegister, registersOut, immediateOut, even};
 ghost use Rattle.riscv.specs.Refusal.{refusal, amountOut, zeroSrliw, zeroRd, indirectOffset};
+
+// The registers are x0 to x31.
+pub const LAST_REGISTER: u64 = 31;
 
 // The kinds, in the order of the first `match` of unicorn's `translate_to_model`.
 pub const KINDS: u64 = 50;
@@ -187,22 +190,22 @@ fn registers_out(format: Format, rd: u64, rs1: u64, rs2: u64) -> bool
         Format::I => either_above(rd, rs1),
         Format::S => either_above(rs1, rs2),
         Format::B => either_above(rs1, rs2),
-        Format::U => rd > 31,
-        Format::J => rd > 31,
+        Format::U => rd > LAST_REGISTER,
+        Format::J => rd > LAST_REGISTER,
         Format::System => false,
     }
 }
 
 fn either_above(a: u64, b: u64) -> bool
-    ensures { λ r. ⌜ r ≡ (ltb 31 a || ltb 31 b) ⌝ }
+    ensures { λ r. ⌜ r ≡ (ltb lastRegister a || ltb lastRegister b) ⌝ }
 {
-    (a > 31) | (b > 31)
+    (a > LAST_REGISTER) | (b > LAST_REGISTER)
 }
 
 fn any_above(a: u64, b: u64, c: u64) -> bool
-    ensures { λ r. ⌜ r ≡ (ltb 31 a || (ltb 31 b || ltb 31 c)) ⌝ }
+    ensures { λ r. ⌜ r ≡ (ltb lastRegister a || (ltb lastRegister b || ltb lastRegister c)) ⌝ }
 {
-    (a > 31) | ((b > 31) | (c > 31))
+    (a > LAST_REGISTER) | ((b > LAST_REGISTER) | (c > LAST_REGISTER))
 }
 
 // 2: the immediate is outside the range of its format.

@@ -24,10 +24,10 @@ use Rattle.lowering_lines.specs.Lines.{programFrom}
 use Rattle.lowering.specs.Lowering.{programOf, countsAfter, settled, loweringGiven}
 use Rattle.listing_start.specs.Start.{startNames, concat, startName, namedStates, startOps, records, startWords, startIn, fromOn, startRoles, startState}
 use Rattle.listing_bytes.specs.Storage.{startLent}
-use Rattle.starred.specs.Case.{answerTo, states}
+use Rattle.starred.specs.Case.{answerToCase, states}
 use Rattle.listing_bytes.specs.Storage.{startLent}
 use Rattle.starred.specs.Cases.{cases, Starred}
 
 pub starred : Starred
-unfolding cases answerTo states startLent startNames concat startName namedStates startOps records startWords startIn fromOn startRoles startState loweringGiven refusalGiven roomOf needsOf rolesFit lineAt opOf carried refusal flagOut roomOut settled programOf programFrom countsAfter appendLine constantOf upper operandsFor flowsIn withFlows translate regFlowIte unimplemented _>>=_ newNeq newUgte newSra newShiftRight checkAdditionOverflow modelAddress wordAddress bitOffset modelL modelLoad constant link withConstant addiResult sumWithConstant modelAddi shiftedBack divided modelBranch numeral badName view walk mapOp evalOp binary values value Smt.ite bit negative bvnot bvneg bvadd bvsub bvmul bvudiv bvsdiv bvand bvshl bvlshr bvult bvcomp zeroExtend
+unfolding cases answerToCase states startLent startNames concat startName namedStates startOps records startWords startIn fromOn startRoles startState loweringGiven refusalGiven roomOf needsOf rolesFit lineAt opOf carried refusal flagOut roomOut settled programOf programFrom countsAfter appendLine constantOf upper operandsFor flowsIn withFlows translate regFlowIte unimplemented _>>=_ newNeq newUgte newSra newShiftRight checkAdditionOverflow modelAddress wordAddress bitOffset modelL modelLoad constant link withConstant addiResult sumWithConstant modelAddi shiftedBack divided modelBranch numeral badName view walk mapOp evalOp binary values value Smt.ite bit negative bvnot bvneg bvadd bvsub bvmul bvudiv bvsdiv bvand bvshl bvlshr bvult bvcomp zeroExtend
 starred = refl

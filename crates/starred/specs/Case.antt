@@ -21,12 +21,12 @@ use Rattle.listing_bytes.specs.Storage.{startLent}
 
 -- ---- what is asked: an instruction at an address
 
-pub record Asked : Type 0 where
+pub record AskedCase : Type 0 where
   pub instruction : Instruction
   pub address : ℕ
 
 -- kind, rd, rs1, rs2, imm
-abbrev pub asked : ℕ → Kind → ℕ → ℕ → ℕ → ℕ → Asked
+abbrev pub asked : ℕ → Kind → ℕ → ℕ → ℕ → ℕ → AskedCase
 asked address k rd rs1 rs2 imm = record { instruction = record { kind = K.kindNumber k; rd = rd; rs1 = rs1; rs2 = rs2; imm = imm }; address = address }
 
 -- "Every instruction uses flag 58."
@@ -37,8 +37,8 @@ abbrev pub memory : NodeRef
 memory = placed 55
 
 -- lowered from the listing's start, with what it lends
-unfoldable pub answerTo : Asked → Answer
-answerTo a = lowering startLent startState (a .instruction) (a .address) flag
+unfoldable pub answerToCase : AskedCase → Answer
+answerToCase a = lowering startLent startState (a .instruction) (a .address) flag
 
 -- ---- what is to come of it
 
@@ -73,6 +73,6 @@ found a (dispatches ds) = dispatches (take (a .lowered .state .counts .dispatche
 found a (bads bs) = bads (take (a .lowered .state .counts .bads) (a .lent .bads))
 
 -- a table of cases, with what the calls give in place of what is to come of them
-abbrev pub answered : List (Asked × List Finding) → List (Asked × List Finding)
+abbrev pub answered : List (AskedCase × List Finding) → List (AskedCase × List Finding)
 answered [] = []
-answered (c ∷ cs) = (c .0, map (found (answerTo (c .0))) (c .1)) ∷ answered cs
+answered (c ∷ cs) = (c .0, map (found (answerToCase (c .0))) (c .1)) ∷ answered cs

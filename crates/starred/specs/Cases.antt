@@ -9,9 +9,9 @@ use Rattle.btor2.specs.declared.NodeType.the-variants.{Bit, Word}
 use Rattle.btor2.specs.Op.{const, bin, sdiv, ult, not, bad}
 use Rattle.edges.specs.Edges.{edge, noCondition}
 use Rattle.riscv.specs.Kind.{Lui, Auipc, Lh, Addi, Slli, Srliw, Div, Bgeu, Jal, Jalr}
-use Rattle.starred.specs.Case.{Asked, asked, states, Finding, refusal, lines, line, value, edges, dispatches, bads, answered}
+use Rattle.starred.specs.Case.{AskedCase, asked, states, Finding, refusal, lines, line, value, edges, dispatches, bads, answered}
 
-unfoldable pub cases : List (Asked × List Finding)
+unfoldable pub cases : List (AskedCase × List Finding)
 cases =
     -- "Srliw 31 accepted, 0 gives 4, 32 gives 3; with 0 and rd x0, still 4."
     (asked 65536 Srliw 1 2 0 31, refusal 0 ∷ [])

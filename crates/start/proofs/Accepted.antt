@@ -11,7 +11,8 @@ use Rattle.list_check.specs.Lines.{ops}
 use Rattle.list_check.specs.Formed.{unformed}
 use Rattle.lowering_refusals.specs.declared.Room.{Room}
 use Rattle.lowering_refusals.specs.declared.State.{State}
-use Rattle.lowering_refusals.specs.Refusal.{mostStartNid, countsOut}
+use Rattle.lowering_refusals.specs.Refusal.{countsOut}
+use Rattle.btor2_list.specs.Limits.{mostStartNid}
 use Rattle.lowering_refusals.proofs.Within.{Within, within}
 use Rattle.nid_check.specs.Identifiers.{taken, nidsOut}
 use Rattle.riscv.proofs.First.{passes}

@@ -9,7 +9,8 @@ use Rattle.list_check.specs.Lines.{ops}
 use Rattle.list_check.specs.Formed.{unformed}
 use Rattle.lowering_refusals.specs.declared.Room.{Room}
 use Rattle.lowering_refusals.specs.declared.State.{State}
-use Rattle.lowering_refusals.specs.Refusal.{mostStartNid, countsOut}
+use Rattle.lowering_refusals.specs.Refusal.{countsOut}
+use Rattle.btor2_list.specs.Limits.{mostStartNid}
 use Rattle.nid_check.specs.Identifiers.{taken, nidsOut}
 use Rattle.riscv.specs.Refusal.{first}
 use Rattle.roles_check.specs.RolesFit.{rolesFit}

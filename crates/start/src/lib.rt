@@ -1,6 +1,6 @@
 // The check of a start: whoever prepares it is refused with 9 to 13.
+use btor2_list::MOST_START_NID;
 use list_check::unformed;
-use lowering_refusals::MOST_START_NID;
 use lowering_refusals::State;
 use lowering_refusals::counts_out;
 use lowering_refusals::room_of;

@@ -12,7 +12,7 @@ use Rattle.btor2.specs.declared.NodeRef.{NodeRef}
 use Rattle.builder.specs.declared.Tally.{Tally}
 use Rattle.models.specs.Places as P
 use Rattle.roles.specs.Roles as R
-use Rattle.roles.specs.Roles.{ref, nodeRole, flowRole, roleCount, withFlows, withRegister, withOutcome}
+use Rattle.roles.specs.Roles.{ref, nodeRole, flowRole, roleCount, withFlows, withRegisterFlow, withOutcome}
 use Rattle.lowering_refusals.specs.declared.Counts.{Counts}
 use Rattle.lowering_refusals.specs.declared.State.{State}
 use Rattle.state_words.specs.Words.{firstRole, stateWords, rolesIn, stateOf, stateOut, withState, place}
@@ -69,7 +69,7 @@ put-flows k f =
     put (put (put (put (put (put (put (put k R.counterFlow (f .counter) (omega arith)) R.maximumFlow (f .maximum) (omega arith)) R.divisionFlow (f .division) (omega arith)) R.remainderFlow (f .remainder) (omega arith))
     R.accessFlow (f .access) (omega arith)) R.additionFlow (f .addition) (omega arith)) R.multiplicationFlow (f .multiplication) (omega arith)) R.ecallFlow (f .ecall) (omega arith)
 
-put-register : {ws e : List ℕ} {roles : List NodeRef} → Kept ws e roles → (rd x : ℕ) → Kept ws (putRegister e rd x) (withRegister roles rd (ref x))
+put-register : {ws e : List ℕ} {roles : List NodeRef} → Kept ws e roles → (rd x : ℕ) → Kept ws (putRegister e rd x) (withRegisterFlow roles rd (ref x))
 put-register {ws} {e} {roles} k rd x = go (eqb rd 0)
   where
     some : (t : Bool) → ltb 31 rd ≡ t → Kept ws (cond t e (set e (44 + rd) x)) (cond t roles (set roles (38 + rd) (ref x)))

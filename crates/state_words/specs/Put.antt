@@ -7,7 +7,8 @@ use lib.ListN.{set}
 use Rattle.builder.specs.declared.Tally.{Tally}
 use Rattle.lowering_refusals.specs.declared.Counts.{Counts}
 use Rattle.models.specs.Places as P
-use Rattle.roles.specs.Roles.{registerFlows, memoryFlow, counterFlow, maximumFlow, divisionFlow, remainderFlow, accessFlow, additionFlow, multiplicationFlow, ecallFlow, lastRegister}
+use Rattle.roles.specs.Roles.{registerFlows, memoryFlow, counterFlow, maximumFlow, divisionFlow, remainderFlow, accessFlow, additionFlow, multiplicationFlow, ecallFlow}
+use Rattle.riscv.specs.Format.{lastRegister}
 use Rattle.state_words.specs.Words.{firstRole}
 
 -- the words before the roles

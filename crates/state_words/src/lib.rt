@@ -7,6 +7,7 @@ use models::Flows;
 use models::Operands;
 use models::Outcome;
 use riscv::Instruction;
+use riscv::LAST_REGISTER;
 use roles::Reads;
 ghost use mathlib.Core.Path.{_≡_};
 ghost use mathlib.Core.List.{[]};
@@ -202,7 +203,7 @@ fn node_role(r: u64) -> usize
     ensures is { λ k. ⌜ k ≡ nodeRole r ⌝ }
     ensures most { λ k. ⌜ k ≤ 78 ⌝ }
 {
-    if r > 31 {
+    if r > LAST_REGISTER {
         return roles::REGISTERS;
     }
     roles::REGISTERS + r as usize
@@ -215,7 +216,7 @@ fn flow_role(r: u64) -> usize
     if r == 0 {
         return roles::REGISTERS;
     }
-    if r > 31 {
+    if r > LAST_REGISTER {
         return roles::REGISTERS;
     }
     roles::REGISTER_FLOWS + r as usize
@@ -303,7 +304,7 @@ fn put_register(words: &mut [u64], rd: u64, x: NodeRef)
     if rd == 0 {
         return;
     }
-    if rd > 31 {
+    if rd > LAST_REGISTER {
         return;
     }
     words[FIRST_ROLE + roles::REGISTER_FLOWS + rd as usize] = x.0 as u64;

@@ -5,15 +5,15 @@ use mathlib.Core.List.{List}
 use denote.Ref.{now}
 use borrow.Author.Needs.{needs}
 use Rattle.print.specs.declared.Printed.{Printed}
-use Rattle.print.specs.Printing.{Outcome, answerOf, outcome, printing}
+use Rattle.print.specs.Printing.{PrintOutcome, answerOf, printOutcome, printing}
 use Rattle.host.specs.Host.{textBy, hostPrinting}
 use Rattle.host.proofs.lanthanumbat_print.Statement.{statement}
 use Rattle.host.proofs.lanthanumbat_print.Tie as tie
 
 text-of : (r : Printed) (out′ ws : List ℕ) (lines : ℕ) (host ours : List ℕ) (from count : ℕ) (out : List ℕ)
-    → outcome (answerOf r) out′ ≡ printing ws lines host ours from count out → textBy (answerOf r) out′ ≡ hostPrinting ws lines host ours from count out
+    → printOutcome (answerOf r) out′ ≡ printing ws lines host ours from count out → textBy (answerOf r) out′ ≡ hostPrinting ws lines host ours from count out
 unfolding hostPrinting
-text-of r out′ ws lines host ours from count out e = ap (λ (o : Outcome). textBy (o .answer) (o .output)) e
+text-of r out′ ws lines host ours from count out e = ap (λ (o : PrintOutcome). textBy (o .answer) (o .output)) e
 
 returns : tie.Need-returns
 returns c =

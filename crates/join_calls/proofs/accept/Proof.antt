@@ -2,7 +2,7 @@
 use borrow.Author.Needs.{needs}
 use denote.Ref.{now}
 use Rattle.builder.proofs.Gives.{kept, free}
-use Rattle.join.specs.Refusal.{lent, given}
+use Rattle.join.specs.Refusal.{joinLent, joinInput}
 use Rattle.join_calls.proofs.Settled.{settles}
 use Rattle.join_calls.proofs.accept.Statement.{statement}
 use Rattle.join_calls.proofs.accept.Tie as tie
@@ -24,7 +24,7 @@ returns c =
     let kernel = begun .before in
     let a = kernel .before .before .before .before .before .before .before .before .before .before .before .args in
     rw (c .held-after .ensures)
-    (settles (lent (now (a .list)) (now (a .names)) (now (a .sequentials))) (a .h) (given (now (a .edges)) (now (a .dispatches)) (now (a .flags)) (now (a .dynamics)) (a .a))
+    (settles (joinLent (now (a .list)) (now (a .names)) (now (a .sequentials))) (a .h) (joinInput (now (a .edges)) (now (a .dispatches)) (now (a .flags)) (now (a .dynamics)) (a .a))
     (rw (begun .begin .ensures, kernel .kernel-of .ensures) at (e .join-edges .ensures)) (d .join-dispatches .ensures))
 
 pub accept-spec : {M : Type 1} → statement M

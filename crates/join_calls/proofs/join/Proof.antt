@@ -7,7 +7,7 @@ use borrow.Author.Tests.{eq-eqb}
 use denote.Ref.{now}
 use lib.ListN.{length}
 use Rattle.builder.proofs.Gives.{free}
-use Rattle.join.specs.Refusal.{Lent, lent, Given, given, refusalOf}
+use Rattle.join.specs.Refusal.{JoinLent, joinLent, JoinInput, joinInput, joinRefusal}
 use Rattle.join.specs.Join.{joining}
 use Rattle.join.proofs.Laws.{refused-leaves}
 use Rattle.join.proofs.Numbers.{passed}
@@ -15,13 +15,13 @@ use Rattle.join_calls.proofs.Entry.{counts-fit}
 use Rattle.join_calls.proofs.join.Statement.{statement}
 use Rattle.join_calls.proofs.join.Tie as tie
 
-abbrev lent-to : tie.Start → Lent
-lent-to s = lent (now (s .args .list)) (now (s .args .names)) (now (s .args .sequentials))
+abbrev lent-to : tie.Start → JoinLent
+lent-to s = joinLent (now (s .args .list)) (now (s .args .names)) (now (s .args .sequentials))
 
-abbrev given-to : tie.Start → Given
-given-to s = let a = s .args in given (now (a .edges)) (now (a .dispatches)) (now (a .flags)) (now (a .dynamics)) (a .a)
+abbrev given-to : tie.Start → JoinInput
+given-to s = let a = s .args in joinInput (now (a .edges)) (now (a .dispatches)) (now (a .flags)) (now (a .dynamics)) (a .a)
 
-number : (c : tie.After-refuse) → let s = c .before .before .before .before .before .before .before .before in c .refuse .result ≡ refusalOf (lent-to s) (s .args .h) (given-to s)
+number : (c : tie.After-refuse) → let s = c .before .before .before .before .before .before .before .before in c .refuse .result ≡ joinRefusal (lent-to s) (s .args .h) (given-to s)
 number c = let s = c .before .before .before .before .before .before .before .before in c .refuse .ensures (now (s .args .names)) (now (s .args .sequentials)) refl refl
 
 accept-requires : tie.Need-accept-requires
@@ -45,7 +45,7 @@ returns-2 : tie.Need-returns-2
 unfolding joining
 returns-2 c =
     let s = c .before .before .before .before .before .before .before .before .before .before .before .before .before .before .before .before .before .before .before in
-    rw (eq-eqb (refusalOf (lent-to s) (s .args .h) (given-to s)) 0 (sym (number (c .before .before .before .before .before .before .before .before .before .before .before)) ∙ c .before .before .before .before .before .before .before .before .before .before .if1 .left)) (c .before .before .before .before .before .before .accept .ensures)
+    rw (eq-eqb (joinRefusal (lent-to s) (s .args .h) (given-to s)) 0 (sym (number (c .before .before .before .before .before .before .before .before .before .before .before)) ∙ c .before .before .before .before .before .before .before .before .before .before .if1 .left)) (c .before .before .before .before .before .before .accept .ensures)
 
 pub join-spec : {M : Type 1} → statement M
 join-spec =

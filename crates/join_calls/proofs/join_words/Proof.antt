@@ -6,7 +6,7 @@ use borrow.Author.Tests.{lt-ltb}
 use denote.Ref.{now}
 use Rattle.builder.proofs.Gives.{free}
 use Rattle.state_words.specs.Words.{stateWords}
-use Rattle.join.specs.Refusal.{lent, given}
+use Rattle.join.specs.Refusal.{joinLent, joinInput}
 use Rattle.join.specs.Words.{joiningWords}
 use Rattle.join_calls.proofs.Entry.{words-put}
 use Rattle.join_calls.proofs.join_words.Statement.{statement}
@@ -24,7 +24,7 @@ returns-2 c =
     let test = held .before .before in
     let a = test .before .before .before .before .before .before .before .before .args in
     rw (put .put-held .ensures)
-    (words-put (lent (now (a .list)) (now (a .names)) (now (a .sequentials))) _ (now (a .state)) (a .used) (given (now (a .edges)) (now (a .dispatches)) (now (a .flags)) (now (a .dynamics)) (a .a)) _ _ (joined .join .result .held)
+    (words-put (joinLent (now (a .list)) (now (a .names)) (now (a .sequentials))) _ (now (a .state)) (a .used) (joinInput (now (a .edges)) (now (a .dispatches)) (now (a .flags)) (now (a .dynamics)) (a .a)) _ _ (joined .join .result .held)
     (rw (held .held-in .ensures) at (joined .join .ensures)) (omega (arith, test .if1 .left)))
 
 pub join-words-spec : {M : Type 1} → statement M

@@ -9,7 +9,7 @@ use borrow.Author.Tests.{not-false}
 use denote.Ref.{now}
 use lib.ListN.{length, replicate, length-replicate}
 use Rattle.builder.proofs.Gives.{free}
-use Rattle.join.specs.Refusal.{Lent, lent, Given, given, countsOut, flagsOut, roomOut, zeroIn}
+use Rattle.join.specs.Refusal.{JoinLent, joinLent, JoinInput, joinInput, joinCountsOut, flagsOut, joinRoomOut, zeroIn}
 use Rattle.join.proofs.Numbers.{rolesOut, recordsOut, Within, within, is-9, is-13, is-15, is-16, is-8, is-0}
 use Rattle.join_calls.proofs.Entry.{counts-by, zero-below}
 use Rattle.join_calls.proofs.Grown.{exceeds-room}
@@ -17,20 +17,20 @@ use Rattle.join_calls.proofs.refuse.Statement.{statement}
 use Rattle.join_calls.proofs.refuse.Tie as tie
 
 -- what is given
-abbrev given-to : tie.Start → Given
-given-to s = let a = s .args in given (now (a .edges)) (now (a .dispatches)) (now (a .flags)) (now (a .dynamics)) (a .a)
+abbrev given-to : tie.Start → JoinInput
+given-to s = let a = s .args in joinInput (now (a .edges)) (now (a .dispatches)) (now (a .flags)) (now (a .dynamics)) (a .a)
 
 -- ---- the answer of each test, whatever has these lengths
 
 module _ (ours places : List ℕ) where
-  abbrev lent-to : tie.Start → Lent
-  lent-to s = lent (now (s .args .list)) ours places
+  abbrev lent-to : tie.Start → JoinLent
+  lent-to s = joinLent (now (s .args .list)) ours places
 
   counted : (c : tie.After-counts-out) → let s = c .before .before .before .before .before in length ours ≡ s .args .names → length places ≡ s .args .sequentials
-      → countsOut (lent-to s) (s .args .h) (given-to s) ≡ c .counts-out .result
+      → joinCountsOut (lent-to s) (s .args .h) (given-to s) ≡ c .counts-out .result
   counted c e f = let s = c .before .before .before .before .before in counts-by (now (s .args .list)) ours places (s .args .h) (given-to s) (s .args .names) (s .args .sequentials) e f ∙ sym (c .counts-out .ensures)
 
-  passed9 : (c : tie.Else1) → let s = c .before .before .before .before .before .before in length ours ≡ s .args .names → length places ≡ s .args .sequentials → countsOut (lent-to s) (s .args .h) (given-to s) ≡ false
+  passed9 : (c : tie.Else1) → let s = c .before .before .before .before .before .before in length ours ≡ s .args .names → length places ≡ s .args .sequentials → joinCountsOut (lent-to s) (s .args .h) (given-to s) ≡ false
   passed9 c e f = counted (c .before) e f ∙ c .if1 .left
 
 -- 15, by the kernel nodes that were given
@@ -57,7 +57,7 @@ inside c =
     (passed9 (replicate (s .args .names) 0) (replicate (s .args .sequentials) 0) c (length-replicate _ _) (length-replicate _ _))
 
 roomed : (ours places : List ℕ) (c : tie.After-room-exceeded) → let s = c .before .before .before .before .before .before .before .before .before .before .before .before .before .before .before .before .before .before .before .before .before in length ours ≡ s .args .names → length places ≡ s .args .sequentials
-    → roomOut (lent-to ours places s) (s .args .h) (given-to s) ≡ c .room-exceeded .result
+    → joinRoomOut (lent-to ours places s) (s .args .h) (given-to s) ≡ c .room-exceeded .result
 roomed ours places c e f =
     let s = c .before .before .before .before .before .before .before .before .before .before .before .before .before .before .before .before .before .before .before .before .before in
     let w = within (lent-to ours places s) (s .args .h) (given-to s) (passed9 ours places (c .before .before .before .before .before .before .before .before .before .before .before .before .before .before .before) e f) in

@@ -48,14 +48,14 @@ use denote.Triple.Table.{entered, cited}
 use denote.Triple.Walked.{says, Stays, gave-slice, stay-slice, stay-dropped, walkOf, goes-gave-slice, goes-slice, goes-dropped, Walks, ends-at, walked, walk-meets}
 use denote.Exit.{yes}
 use Rattle.join.specs.declared.Asked.{Asked}
-use Rattle.join.specs.declared.Held.{Held}
+use Rattle.join.specs.declared.JoinHeld.{JoinHeld}
 use Rattle.join.specs.declared.Joined.{Joined}
-use Rattle.join.specs.Refusal.{lent, given}
-use Rattle.join.specs.Join.{answer}
+use Rattle.join.specs.Refusal.{joinLent, joinInput}
+use Rattle.join.specs.Join.{joinAnswer}
 use Rattle.join.proofs.Asked as As
 use Rattle.join.proofs.Asked.Laws as As′
-use Rattle.join.proofs.Held as Hd
-use Rattle.join.proofs.Held.Laws as Hd′
+use Rattle.join.proofs.JoinHeld as Hd
+use Rattle.join.proofs.JoinHeld.Laws as Hd′
 use Rattle.join.proofs.Joined as Jd
 use Rattle.join.proofs.Joined.Laws as Jd′
 use Rattle.lowering_entry.specs.declared.InEdge.{InEdge}
@@ -96,7 +96,7 @@ as-vals = LL.vals As.the-type As′.the-laws
 abbrev Hd-row : RattleType
 Hd-row = Hd.the-row
 
-abbrev hd-vals : Held → List Val
+abbrev hd-vals : JoinHeld → List Val
 hd-vals = LL.vals Hd.the-type Hd′.the-laws
 
 abbrev Jd-row : RattleType
@@ -123,7 +123,7 @@ module _ {M : Type 1} (𝓤 : URA M) (H : Heap 𝓤) (A : Atoms 𝓤) (mem″ : 
   ApartC = tripleOf 𝓤 H A apart.signature (apart.spec 𝓤 H A mem″ run)
 
 module _ {M : Type 1} (𝓤 : URA M) (H : Heap 𝓤) (A : Atoms 𝓤) (W : Given 𝓤 H A) (mem″ : Memory → SProp 𝓤) (run : Routine → Fun 𝓤) (κ₀ κ₁ κ₂ κ₃ κ₄ κ₅ κ₆ κ₇ : Lft) (q₀ q₁ q₂ q₃ q₄ q₅ q₆ q₇ : Share)
-    (b₀ o₀ : ℕ) (γ₀ : GName) (ws : List ℕ) (b₁ o₁ : ℕ) (γ₁ : GName) (ns : List ℕ) (b₂ o₂ : ℕ) (γ₂ : GName) (ss : List ℕ) (b₃ o₃ : ℕ) (γ₃ : GName) (es : List InEdge) (b₄ o₄ : ℕ) (γ₄ : GName) (us : List ℕ) (b₅ o₅ : ℕ) (γ₅ : GName) (ds : List ℕ) (b₆ o₆ : ℕ) (γ₆ : GName) (fs : List ℕ) (b₇ o₇ : ℕ) (γ₇ : GName) (ys : List ℕ) (a : Asked) (h : Held)
+    (b₀ o₀ : ℕ) (γ₀ : GName) (ws : List ℕ) (b₁ o₁ : ℕ) (γ₁ : GName) (ns : List ℕ) (b₂ o₂ : ℕ) (γ₂ : GName) (ss : List ℕ) (b₃ o₃ : ℕ) (γ₃ : GName) (es : List InEdge) (b₄ o₄ : ℕ) (γ₄ : GName) (us : List ℕ) (b₅ o₅ : ℕ) (γ₅ : GName) (ds : List ℕ) (b₆ o₆ : ℕ) (γ₆ : GName) (fs : List ℕ) (b₇ o₇ : ℕ) (γ₇ : GName) (ys : List ℕ) (a : Asked) (h : JoinHeld)
     (room₀ : Room u64 (length ws)) (room₁ : Room u8 (length ns)) (room₂ : Room u64 (length ss)) (room₃ : Room R (length es)) (room₄ : Room u64 (length us)) (room₅ : Room u64 (length ds)) (room₆ : Room u64 (length fs)) (a-is : Is As-row a (as-vals a)) (h-is : Is Hd-row h (hd-vals h)) where
   abbrev x₀ : RefT (List ℕ)
   x₀ = record { ptr = (b₀, o₀); name = γ₀; now = ws }
@@ -174,7 +174,7 @@ module _ {M : Type 1} (𝓤 : URA M) (H : Heap 𝓤) (A : Atoms 𝓤) (W : Given
   s₇ = vptr b₇ o₇
 
   abbrev Arg : Type 0
-  Arg = RefT (List ℕ) × (RefT (List ℕ) × (RefT (List ℕ) × (RefT (List InEdge) × (RefT (List ℕ) × (RefT (List ℕ) × (RefT (List ℕ) × (RefT (List ℕ) × (Asked × (Held × Unit {0})))))))))
+  Arg = RefT (List ℕ) × (RefT (List ℕ) × (RefT (List ℕ) × (RefT (List InEdge) × (RefT (List ℕ) × (RefT (List ℕ) × (RefT (List ℕ) × (RefT (List ℕ) × (Asked × (JoinHeld × Unit {0})))))))))
 
   abbrev args : Arg
   args = (x₀, (x₁, (x₂, (x₃, (x₄, (x₅, (x₆, (x₇, (a, (h, tt))))))))))
@@ -227,7 +227,7 @@ module _ {M : Type 1} (𝓤 : URA M) (H : Heap 𝓤) (A : Atoms 𝓤) (W : Given
     abbrev xw : RefT (List ℕ)
     xw = record { ptr = (b₄, o₄); name = ε; now = zs }
 
-    abbrev apart-args : RefT (List ℕ) × (RefT (List ℕ) × (RefT (List ℕ) × (ℕ × (RefT (List ℕ) × (RefT (List ℕ) × (RefT (List ℕ) × (RefT (List ℕ) × (Asked × (Held × Unit {0})))))))))
+    abbrev apart-args : RefT (List ℕ) × (RefT (List ℕ) × (RefT (List ℕ) × (ℕ × (RefT (List ℕ) × (RefT (List ℕ) × (RefT (List ℕ) × (RefT (List ℕ) × (Asked × (JoinHeld × Unit {0})))))))))
     apart-args = (x₀, (x₁, (x₂, (c, (xw, (x₅, (x₆, (x₇, (a, (h, tt))))))))))
 
     abbrev apart-lfts : Lft × (Lft × (Lft × (Lft × (Lft × (Lft × (Lft × Unit {0}))))))
@@ -247,17 +247,17 @@ module _ {M : Type 1} (𝓤 : URA M) (H : Heap 𝓤) (A : Atoms 𝓤) (W : Given
         move ! (4 ∷ 0 ∷ []) $ fjoin ! $ move ! (3 ∷ 0 ∷ []) $ fjoin ! $ move ! (2 ∷ 0 ∷ []) $ fjoin ! $ move ! (1 ∷ 0 ∷ []) $ join ! $ frame ! $ done !
 
     abbrev ToldApart : Joined → List ℕ → List ℕ → List ℕ → Type 0
-    ToldApart r vs₀ vs₁ vs₂ = answer (r .refusal) (r .flow .0) (r .held) (lent vs₀ vs₁ vs₂) ≡ joiningWithin c (lent ws ns ss) h (given zs ds fs ys a)
+    ToldApart r vs₀ vs₁ vs₂ = joinAnswer (r .refusal) (r .flow .0) (r .held) (joinLent vs₀ vs₁ vs₂) ≡ joiningWithin c (joinLent ws ns ss) h (joinInput zs ds fs ys a)
 
   abbrev AtExit : List ℕ → List ℕ → List ℕ → List ℕ → List (Item 𝓤)
   AtExit vs₀ vs₁ vs₂ zs = ‵ (flft κ₀ q₀) ∷ ‵ (flft κ₁ q₁) ∷ ‵ (flft κ₂ q₂) ∷ ‵ (flft κ₃ q₃) ∷ ‵ (flft κ₄ q₄) ∷ ‵ (flft κ₅ q₅) ∷ ‵ (flft κ₆ q₆) ∷ ‵ (flft κ₇ q₇) ∷ ‵ (finally u64 γ₀ vs₀) ∷ ‵ (finally u8 γ₁ vs₁) ∷ ‵ (finally u64 γ₂ vs₂) ∷ ‵ (fobs γ₄ (codedHoleys u64 .code (heres u64 zs))) ∷ ‵ (fbor κ₄ (Borrowed u64 (length zs) b₄ o₄ γ₄)) ∷ []
 
-  exits : (c : ℕ) (r : Joined) (vs₀ vs₁ vs₂ zs : List ℕ) → c ≡ putCount (length es) (length us) a → zs ≡ sets us 0 (edgeWords (take c es)) → answer (r .refusal) (r .flow .0) (r .held) (lent vs₀ vs₁ vs₂) ≡ joiningWithin c (lent ws ns ss) h (given zs ds fs ys a)
+  exits : (c : ℕ) (r : Joined) (vs₀ vs₁ vs₂ zs : List ℕ) → c ≡ putCount (length es) (length us) a → zs ≡ sets us 0 (edgeWords (take c es)) → joinAnswer (r .refusal) (r .flow .0) (r .held) (joinLent vs₀ vs₁ vs₂) ≡ joiningWithin c (joinLent ws ns ss) h (joinInput zs ds fs ys a)
       → length vs₀ ≡ length ws → length vs₁ ≡ length ns → length vs₂ ≡ length ss → length zs ≡ length us → Is Jd-row r (jd-vals r) → ent 𝓤 (⋆ 𝓤 H A (AtExit vs₀ vs₁ vs₂ zs)) (Post (jd-val r))
   exits c r vs₀ vs₁ vs₂ zs c-is told is same₀ same₁ same₂ same₄ r-is =
       qed W (AtExit vs₀ vs₁ vs₂ zs) ∵
       suffices ! _ (ends-at 𝓤 H A f.ended stayed (f.clauses 𝓤 H A mem″ run) W (((κ₀, (κ₁, (κ₂, (κ₃, (κ₄, (κ₅, (κ₆, (κ₇, tt)))))))), (q₀, (q₁, (q₂, (q₃, (q₄, (q₅, (q₆, (q₇, tt)))))))), tt, args, vals), tt) (jd-val r) r (vs₀, (vs₁, (vs₂, (tt, (zs, (tt, (tt, (tt, (tt, (tt, tt)))))))))) (same₀, (same₁, (same₂, (tt, (same₄, (tt, (tt, (tt, (tt, (tt, tt))))))))))) $
-      says ! (answered (lent ws ns ss) h ds fs ys a es us c (answer (r .refusal) (r .flow .0) (r .held) (lent vs₀ vs₁ vs₂)) zs c-is told is) $
+      says ! (answered (joinLent ws ns ss) h ds fs ys a es us c (joinAnswer (r .refusal) (r .flow .0) (r .held) (joinLent vs₀ vs₁ vs₂)) zs c-is told is) $
       nothing ! $ move ! (1 ∷ 2 ∷ 3 ∷ 4 ∷ 5 ∷ 6 ∷ 7 ∷ 8 ∷ 0 ∷ []) $ group ! 9 $ frame ! $
       move ! (3 ∷ 4 ∷ []) $ fjoin ! $ pureI ! (at-slice u64 (record { ptr = (b₄, o₄); name = γ₄; now = zs }) (s₄ ∷ [])) (tt, (tt, tt)) (ap (λ (m : ℕ). sliceVal (b₄, o₄) m ∷ []) (sym same₄), subst (Room u64) (sym same₄) room₄) $ fjoin ! $
       nothing ! $ nothing ! $ fjoin ! $ nothing ! $ fjoin ! $ nothing ! $ fjoin ! $ nothing ! $ fjoin ! $ nothing ! $ fjoin ! $ move ! (1 ∷ 0 ∷ []) $ fjoin ! $ nothing ! $ fjoin ! $

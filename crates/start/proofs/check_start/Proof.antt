@@ -11,7 +11,8 @@ use Rattle.riscv.specs.Refusal.{first}
 use Rattle.riscv.proofs.First.{hit, miss}
 use Rattle.list_check.specs.Lines.{pastWords}
 use Rattle.lowering_refusals.specs.declared.Room.{Room}
-use Rattle.lowering_refusals.specs.Refusal.{mostStartNid, roomOf, countsOut}
+use Rattle.lowering_refusals.specs.Refusal.{roomOf, countsOut}
+use Rattle.btor2_list.specs.Limits.{mostStartNid}
 use Rattle.lowering_refusals.proofs.Within.{within}
 use Rattle.start.specs.Start.{startRefusal}
 use Rattle.start.proofs.Tests.{from10, from11, from12, from13}

@@ -7,7 +7,7 @@ use denote.Ref.{now}
 use lib.ListN.{length, drop}
 use Rattle.roles.specs.Roles.{registerNode}
 use Rattle.join.specs.Given.{dispatchesIn, dynamicFor}
-use Rattle.control_flow.specs.Code.{bitsOf}
+use Rattle.control_flow.specs.Code.{bitPlaces}
 use Rattle.join_calls.proofs.Steps.{dispatches-next, dispatches-none}
 use Rattle.join_calls.proofs.Going.{Dispatching, dispatching, dispatch-goes, dispatch-ends}
 use Rattle.join_calls.proofs.lines.join_dispatches.Statement.{statement}
@@ -16,7 +16,7 @@ use Rattle.join_calls.proofs.lines.join_dispatches.Tie as tie
 abbrev Inv-loop : tie.InvT-loop
 Inv-loop list₀ dispatches number roles dynamics b at₀ done₀ list at done =
     (length list ≡ length list₀) × (done ≤ number)
-    × Dispatching (bitsOf b) (λ n. registerNode roles n .0) (dynamicFor dynamics) list at (dispatchesIn (number - done) (drop (done * 2) dispatches)) list₀ at₀ (dispatchesIn number dispatches)
+    × Dispatching (bitPlaces b) (λ n. registerNode roles n .0) (dynamicFor dynamics) list at (dispatchesIn (number - done) (drop (done * 2) dispatches)) list₀ at₀ (dispatchesIn number dispatches)
 
 abbrev μ-loop : tie.MeasureT-loop
 μ-loop list₀ dispatches number roles dynamics b at₀ done₀ list at done = number - done

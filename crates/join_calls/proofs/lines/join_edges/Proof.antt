@@ -6,7 +6,7 @@ use borrow.Author.Needs.{needs}
 use denote.Ref.{now}
 use lib.ListN.{length, drop}
 use Rattle.join.specs.Given.{edgesIn, flagFor}
-use Rattle.control_flow.specs.Code.{bitsOf, kernelOf}
+use Rattle.control_flow.specs.Code.{bitPlaces, kernelPlaces}
 use Rattle.join_calls.proofs.Steps.{edges-next, edges-none}
 use Rattle.join_calls.proofs.Going.{Going, begins, one-of, goes, ends}
 use Rattle.join_calls.proofs.lines.join_edges.Statement.{statement}
@@ -16,7 +16,7 @@ abbrev Inv-loop : tie.InvT-loop
 Inv-loop list₀ names₀ sequentials₀ edges number flags count b k at₀ done₀ list names sequentials at done =
     ((length list ≡ length list₀) × (length names ≡ length names₀) × (length sequentials ≡ length sequentials₀))
     × (done ≤ number)
-    × Going (bitsOf b) (kernelOf k) (flagFor count flags) list names sequentials at (edgesIn (number - done) (drop (done * 4) edges)) list₀ names₀ sequentials₀ at₀ (edgesIn number edges)
+    × Going (bitPlaces b) (kernelPlaces k) (flagFor count flags) list names sequentials at (edgesIn (number - done) (drop (done * 4) edges)) list₀ names₀ sequentials₀ at₀ (edgesIn number edges)
 
 abbrev μ-loop : tie.MeasureT-loop
 μ-loop list₀ names₀ sequentials₀ edges number flags count b k at₀ done₀ list names sequentials at done = number - done
