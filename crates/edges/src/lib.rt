@@ -1,4 +1,6 @@
-// In-edges, as records of numbers in a slice that the host lends. Each put is total: where the slice holds no further record it changes nothing.
+// In-edges: as a record, and as numbers in a slice that the host lends. Each put is total: where the slice holds no further edge it changes
+// nothing.
+use btor2::NodeRef;
 use instruction_class::Class;
 use models::Outcome;
 ghost use mathlib.Core.Path.{_≡_};
@@ -19,6 +21,14 @@ pub const SYSCALL: u64 = 2;
 
 // The condition of an edge that has none: a place that no list reaches.
 pub const NO_CONDITION: u64 = 0xffff_ffff_ffff_ffff;
+
+// An in-edge as a record: the address it leads to, the one it comes from, its origin and its condition's place.
+pub struct InEdge {
+    pub to: u64,
+    pub from: u64,
+    pub origin: u64,
+    pub condition: NodeRef,
+}
 
 // How many edges a kind of a class adds.
 pub fn edge_count(class: Class) -> usize

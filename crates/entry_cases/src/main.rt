@@ -16,7 +16,7 @@ use dispatches::DISPATCH;
 use libc::STDIN_FILENO;
 use libc::STDOUT_FILENO;
 use lowering::Lowered;
-use lowering_entry::InEdge;
+use edges::InEdge;
 use lowering_refusals::Counts;
 use lowering_refusals::State;
 use riscv::Instruction;

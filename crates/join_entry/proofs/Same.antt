@@ -15,9 +15,9 @@ use Rattle.join.specs.declared.JoinHeld.{JoinHeld}
 use Rattle.join.specs.Given.{edgesIn}
 use Rattle.join.specs.Refusal.{JoinLent, JoinInput, joinInput, joinProgram, flagsOut, joinLineCount, joinRoomOut, joinRefusal}
 use Rattle.join.specs.Join.{JoinAnswer, joinSettled, joining}
-use Rattle.lowering_entry.specs.declared.InEdge.{InEdge}
-use Rattle.lowering_entry.specs.InEdges.{edgeWords}
-use Rattle.lowering_entry.proofs.Words.{records}
+use Rattle.edges.specs.declared.InEdge.{InEdge}
+use Rattle.edges.specs.InEdges.{edgeWords}
+use Rattle.edges.proofs.InEdges.{records}
 use Rattle.join_entry.specs.Records.{withWords, edgesOver, joiningRecords}
 use Rattle.join_entry.specs.Parts.{putCount, Fits, joiningWithin}
 use Rattle.join_entry.proofs.Words.{same-edges}

@@ -10,9 +10,9 @@ use Rattle.edges.specs.Edges.{edgeStride}
 use Rattle.text.proofs.Laws.{sets-append}
 use Rattle.join.specs.Program.{Edge}
 use Rattle.join.specs.Given.{edgesIn}
-use Rattle.lowering_entry.specs.declared.InEdge.{InEdge}
-use Rattle.lowering_entry.specs.InEdges.{edgeWords}
-use Rattle.lowering_entry.proofs.Words.{words, length-words}
+use Rattle.edges.specs.declared.InEdge.{InEdge}
+use Rattle.edges.specs.InEdges.{edgeWords}
+use Rattle.edges.proofs.InEdges.{words, length-words}
 
 words-append : (es fs : List InEdge) → edgeWords (es ++ fs) ≡ edgeWords es ++ edgeWords fs
 unfolding edgeWords

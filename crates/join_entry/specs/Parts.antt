@@ -9,7 +9,7 @@ use Rattle.join.specs.declared.Asked.{Asked}
 use Rattle.join.specs.declared.JoinHeld.{JoinHeld}
 use Rattle.join.specs.Refusal.{JoinLent, JoinInput}
 use Rattle.join.specs.Join.{JoinAnswer, joinRefused, joining}
-use Rattle.lowering_entry.specs.declared.InEdge.{InEdge}
+use Rattle.edges.specs.declared.InEdge.{InEdge}
 use Rattle.join_entry.specs.Records.{edgesOver}
 
 -- of so many records, how many are put into so many words: none where the call is refused

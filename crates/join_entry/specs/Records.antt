@@ -10,8 +10,8 @@ use Rattle.join.specs.declared.Asked.{Asked}
 use Rattle.join.specs.declared.JoinHeld.{JoinHeld}
 use Rattle.join.specs.Refusal.{JoinLent, joinInput}
 use Rattle.join.specs.Join.{JoinAnswer, joinRefused, joining}
-use Rattle.lowering_entry.specs.declared.InEdge.{InEdge}
-use Rattle.lowering_entry.specs.InEdges.{edgeWords}
+use Rattle.edges.specs.declared.InEdge.{InEdge}
+use Rattle.edges.specs.InEdges.{edgeWords}
 
 -- what a call gives, and the lent words as it leaves them
 pub record Answered : Type 0 where

@@ -1,10 +1,10 @@
 // The join with one address's in-edges in a lent slice of records. Their words are put into words that the host lends, and the core, over
 // number slices, does the work.
 use edges::EDGE;
+use edges::InEdge;
 use join::Asked;
 use join::JoinHeld;
 use join::Joined;
-use lowering_entry::InEdge;
 use lowering_refusals::BAD_COUNT;
 ghost use mathlib.Core.Path.{_≡_};
 ghost use Prim.Native.Nat.{_+_, _*_, _≤_};
@@ -13,7 +13,7 @@ ghost use lib.Seq.{sets};
 ghost use Rattle.edges.specs.Edges.{edge, edgeStride};
 ghost use Rattle.join.specs.Refusal.{joinLent, joinInput};
 ghost use Rattle.join.specs.Join.{joinAnswer};
-ghost use Rattle.lowering_entry.specs.InEdges.{edgeWords};
+ghost use Rattle.edges.specs.InEdges.{edgeWords};
 ghost use Rattle.join_entry.specs.Records.{withWords, joiningRecords};
 ghost use Rattle.join_entry.specs.Parts.{putCount, Fits, joiningWithin};
 

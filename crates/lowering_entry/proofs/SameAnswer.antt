@@ -25,10 +25,10 @@ use Rattle.lowering_refusals.specs.declared.State.{State}
 use Rattle.lowering_refusals.specs.Refusal.{roomOf, needsOf, needs, roomOut, refusalGiven, refusalOf}
 use Rattle.lowering.specs.Lowering.{Lent, lent, Answer, answer, programOf, settled, countsAfter, roomIn, refused, loweringGiven, lowering}
 use Rattle.lowering_refusals.proofs.Accepted as A
-use Rattle.lowering_entry.specs.declared.InEdge.{InEdge}
-use Rattle.lowering_entry.specs.InEdges.{edgeWords}
+use Rattle.edges.specs.declared.InEdge.{InEdge}
+use Rattle.edges.specs.InEdges.{edgeWords}
 use Rattle.lowering_entry.specs.Parts.{edgeAt, appended, usedOf, withEdges, takenApart, EdgesCounted, Rejoined}
-use Rattle.lowering_entry.proofs.Words.{records, put-words}
+use Rattle.edges.proofs.InEdges.{records, put-words}
 
 -- the core's own words: two records
 abbrev pub zeros : List ℕ

@@ -7,7 +7,7 @@ use lib.ListN.{length, getD, set}
 use Rattle.lowering_refusals.specs.declared.State.{State}
 use Rattle.lowering.specs.declared.Lowered.{Lowered}
 use Rattle.lowering_entry.specs.declared.Apart.{Apart}
-use Rattle.lowering_entry.specs.declared.InEdge.{InEdge}
+use Rattle.edges.specs.declared.InEdge.{InEdge}
 
 -- the records with the first n of a and b from count on
 abbrev pub appended : List InEdge → ℕ → ℕ → InEdge → InEdge → List InEdge

@@ -1,6 +1,7 @@
 // The lowering with the in-edges in a lent slice of records. The core, over number slices, does the work: it puts the edges of one instruction
 // into words of its own, and they are appended to the records from there.
 use btor2::NodeRef;
+use edges::InEdge;
 use lowering::Lowered;
 use lowering_refusals::Counts;
 use lowering_refusals::State;
@@ -10,17 +11,8 @@ ghost use Prim.Native.Nat.{_+_, _≤_, _<_};
 ghost use mathlib.Core.List.{List};
 ghost use lib.ListN.{length};
 ghost use Rattle.lowering.specs.Lowering.{lent, answer, lowering};
-ghost use Rattle.lowering_entry.specs.InEdges.{edgeWords};
+ghost use Rattle.edges.specs.InEdges.{edgeWords};
 ghost use Rattle.lowering_entry.specs.Parts.{edgeAt, appended, withEdges, usedOf, takenApart, EdgesCounted, Rejoined};
-
-// An in-edge: the address it leads to, the one it comes from, its origin (one of `edges`' REGULAR, BRANCH and SYSCALL) and its condition's
-// place, NO_CONDITION where there is none.
-pub struct InEdge {
-    pub to: u64,
-    pub from: u64,
-    pub origin: u64,
-    pub condition: NodeRef,
-}
 
 // What a call gives, and the edges that it adds, at most two.
 struct Apart {

@@ -55,9 +55,9 @@ use Rattle.lowering_refusals.proofs.State.Laws as St′
 use Rattle.lowering.specs.declared.Lowered.{Lowered}
 use Rattle.lowering.proofs.Lowered as Lw
 use Rattle.lowering.proofs.Lowered.Laws as Lw′
-use Rattle.lowering_entry.specs.declared.InEdge.{InEdge}
-use Rattle.lowering_entry.proofs.InEdge as T
-use Rattle.lowering_entry.proofs.InEdge.Laws as T′
+use Rattle.edges.specs.declared.InEdge.{InEdge}
+use Rattle.edges.proofs.InEdge as T
+use Rattle.edges.proofs.InEdge.Laws as T′
 use Rattle.lowering_entry.proofs.lower as core
 use Rattle.lowering_entry.proofs.lower.Symbol as core-def
 use Rattle.lowering_entry.proofs.lower.Symbol.{name as #core}

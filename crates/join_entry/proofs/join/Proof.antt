@@ -58,9 +58,9 @@ use Rattle.join.proofs.JoinHeld as Hd
 use Rattle.join.proofs.JoinHeld.Laws as Hd′
 use Rattle.join.proofs.Joined as Jd
 use Rattle.join.proofs.Joined.Laws as Jd′
-use Rattle.lowering_entry.specs.declared.InEdge.{InEdge}
-use Rattle.lowering_entry.specs.InEdges.{edgeWords}
-use Rattle.lowering_entry.proofs.InEdge as T
+use Rattle.edges.specs.declared.InEdge.{InEdge}
+use Rattle.edges.specs.InEdges.{edgeWords}
+use Rattle.edges.proofs.InEdge as T
 use Rattle.join_entry.specs.Parts.{putCount, Fits, joiningWithin}
 use Rattle.join_entry.proofs.Same.{answered, fits}
 use Rattle.join_entry.proofs.put_count as count

@@ -55,11 +55,11 @@ use denote.Triple.Walked.{says, needs, Stays, stay-slice, stay-dropped, walkOf, 
 use denote.Exit.{yes}
 use borrow.Author.Tests.{ltb-true, ltb-false}
 use Rattle.edges.specs.Edges.{edgeStride}
-use Rattle.lowering_entry.specs.declared.InEdge.{InEdge}
-use Rattle.lowering_entry.specs.InEdges.{edgeWords}
-use Rattle.lowering_entry.proofs.InEdge as T
-use Rattle.lowering_entry.proofs.InEdge.Laws as T′
-use Rattle.lowering_entry.proofs.Words.{words}
+use Rattle.edges.specs.declared.InEdge.{InEdge}
+use Rattle.edges.specs.InEdges.{edgeWords}
+use Rattle.edges.proofs.InEdge as T
+use Rattle.edges.proofs.InEdge.Laws as T′
+use Rattle.edges.proofs.InEdges.{words}
 use Rattle.join_entry.specs.Parts.{Fits}
 use Rattle.join_entry.proofs.Words.{put-none, put-next}
 use Rattle.join_entry.proofs.put_edge as one

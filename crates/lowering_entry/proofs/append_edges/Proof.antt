@@ -43,9 +43,9 @@ use denote.Triple.Walked.{says, needs, Stays, stay-slice, stay-none, walkOf, goe
 use denote.Exit.{yes}
 use borrow.Author.Tests.{eq-eqb, ne-eqb, eqb-false}
 use Rattle.lowering_entry.specs.Parts.{appended}
-use Rattle.lowering_entry.specs.declared.InEdge.{InEdge}
-use Rattle.lowering_entry.proofs.InEdge as T
-use Rattle.lowering_entry.proofs.InEdge.Laws as T′
+use Rattle.edges.specs.declared.InEdge.{InEdge}
+use Rattle.edges.proofs.InEdge as T
+use Rattle.edges.proofs.InEdge.Laws as T′
 use Rattle.lowering_entry.proofs.append_edges.Key.{name as #lowering-entry·append-edges}
 use Rattle.lowering_entry.proofs.append_edges as f
 use Rattle.lowering_entry.proofs.append_edges.Statement as stated

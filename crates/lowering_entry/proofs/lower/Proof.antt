@@ -53,12 +53,12 @@ use Rattle.lowering.specs.declared.Lowered.{Lowered}
 use Rattle.lowering.specs.Lowering.{lent, answer, lowering}
 use Rattle.lowering.proofs.Lowered as Lw
 use Rattle.lowering.proofs.Lowered.Laws as Lw′
-use Rattle.lowering_entry.specs.InEdges.{edgeWords}
+use Rattle.edges.specs.InEdges.{edgeWords}
 use Rattle.lowering_entry.specs.Parts.{appended, Rejoined}
-use Rattle.lowering_entry.specs.declared.InEdge.{InEdge}
+use Rattle.edges.specs.declared.InEdge.{InEdge}
 use Rattle.lowering_entry.specs.declared.Apart.{Apart}
-use Rattle.lowering_entry.proofs.InEdge as T
-use Rattle.lowering_entry.proofs.InEdge.Laws as T′
+use Rattle.edges.proofs.InEdge as T
+use Rattle.edges.proofs.InEdge.Laws as T′
 use Rattle.lowering_entry.proofs.Apart as Ap
 use Rattle.lowering_entry.proofs.Apart.Laws as Ap′
 use Rattle.lowering_entry.proofs.lower_apart as core

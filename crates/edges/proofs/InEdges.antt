@@ -6,10 +6,10 @@ use native.Mathlib.Omega.{arith}
 use borrow.Author.Tests.{lt-ltb}
 use lib.ListN.{length, set}
 use lib.Seq.{sets}
 use Rattle.edges.specs.Edges.{edge}
 use Rattle.edges.specs.Records.{putRecord}
-use Rattle.lowering_entry.specs.declared.InEdge.{InEdge}
-use Rattle.lowering_entry.specs.InEdges.{edgeWords}
+use Rattle.edges.specs.declared.InEdge.{InEdge}
+use Rattle.edges.specs.InEdges.{edgeWords}
 
 pub length-words : (es : List InEdge) → length (edgeWords es) ≡ length es * 4
 unfolding edgeWords
