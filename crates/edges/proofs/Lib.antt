@@ -1,1 +1,2 @@
 pub mod InEdges
+pub mod Records

@@ -10,6 +10,7 @@ use lib.ListN.{length}
 use Rattle.btor2_list.specs.Record.{stride}
 use Rattle.edges.specs.Edges.{edgeStride}
 use Rattle.edges.specs.Records.{dispatchStride}
+use Rattle.list_check.specs.Lines.{any}
 use Rattle.riscv.specs.Refusal.{first}
 use Rattle.riscv.proofs.First.{hit, miss}
 use Rattle.roles_check.specs.RolesFit.{rolesFit}
@@ -17,7 +18,7 @@ use Rattle.btor2_list.specs.Limits.{mostLines, mostNid}
 use Rattle.lowering_refusals.proofs.Within.{neither}
 use Rattle.join.specs.declared.JoinHeld.{JoinHeld}
 use Rattle.join.specs.Given.{flagStride}
-use Rattle.join.specs.Refusal.{JoinLent, JoinInput, edgesOf, dispatchesOf, joinCountsOut, flagsOut, edgesOut, dispatchesOut, joinRoomOut, joinRefusal}
+use Rattle.join.specs.Refusal.{JoinLent, JoinInput, edgesOf, dispatchesOf, joinCountsOut, flagsOut, edgeOut, dispatchOut, joinRoomOut, joinRefusal}
 
 module _ (l : JoinLent) (h : JoinHeld) (g : JoinInput) where
   abbrev lines : ℕ
@@ -27,7 +28,7 @@ module _ (l : JoinLent) (h : JoinHeld) (g : JoinInput) where
   rolesOut = not (rolesFit (l .list) lines 0 (h .state .roles))
 
   abbrev pub recordsOut : Bool
-  recordsOut = edgesOut (l .list) lines (edgesOf g) || dispatchesOut (l .list) lines (dispatchesOf g)
+  recordsOut = any (edgeOut (l .list) lines) (edgesOf g) || any (dispatchOut (l .list) lines) (dispatchesOf g)
 
   abbrev Tests : Type 0
   Tests = List (Bool × ℕ)
@@ -114,8 +115,8 @@ module _ (l : JoinLent) (h : JoinHeld) (g : JoinInput) where
     pub counts : Within
     pub roles : rolesOut ≡ false
     pub flags : flagsOut (l .list) lines g ≡ false
-    pub edges : edgesOut (l .list) lines (edgesOf g) ≡ false
-    pub dispatches : dispatchesOut (l .list) lines (dispatchesOf g) ≡ false
+    pub edges : any (edgeOut (l .list) lines) (edgesOf g) ≡ false
+    pub dispatches : any (dispatchOut (l .list) lines) (dispatchesOf g) ≡ false
     pub room : joinRoomOut l h g ≡ false
 
   pub passed : joinRefusal l h g ≡ 0 → Passed
@@ -126,5 +127,5 @@ module _ (l : JoinLent) (h : JoinHeld) (g : JoinInput) where
       let p15 = passes (flagsOut (l .list) lines g) 15 from16 (λ z. omega arith) (p13 .1) in
       let p16 = passes recordsOut 16 from8 (λ z. omega arith) (p15 .1) in
       let p8 = passes (joinRoomOut l h g) 8 [] (λ z. omega arith) (p16 .1) in
-      let b = neither (edgesOut (l .list) lines (edgesOf g)) _ (p16 .0) in
+      let b = neither (any (edgeOut (l .list) lines) (edgesOf g)) _ (p16 .0) in
       record { counts = within (p9 .0); roles = p13 .0; flags = p15 .0; edges = b .0; dispatches = b .1; room = p8 .0 }

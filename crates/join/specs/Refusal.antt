@@ -1,16 +1,17 @@
 -- The refusals of a join (document 02, R-1): "It refuses as 9 and 13, then with 15 [..], then with 16 [..], then as 8", each over the whole call
 -- before the next.
-use Prim.Native.Nat.{ℕ, zero, suc, _+_, _/_}
-use mathlib.Core.Bool.{Bool, false, not, _&&_, _||_}
+use Prim.Native.Nat.{ℕ, _+_, _/_}
+use mathlib.Core.Bool.{Bool, not, _&&_, _||_}
 use mathlib.Core.List.{List, [], _∷_}
 use lib.Dec.{eqb, ltb}
-use lib.ListN.{length, getD, drop}
+use lib.ListN.{length}
 use Rattle.btor2.specs.declared.NodeType.the-variants.{Bit, Word}
 use Rattle.btor2.specs.Sort.{sortNumber}
 use Rattle.btor2_list.specs.Record.{stride}
 use Rattle.btor2_list.specs.Look.{lookAt}
 use Rattle.edges.specs.Edges.{edgeStride, branchOrigin, syscallOrigin}
 use Rattle.edges.specs.Records.{dispatchStride}
+use Rattle.list_check.specs.Lines.{any}
 use Rattle.program.specs.Prog.{Prog}
 use Rattle.program.specs.Lines.{linesOf, placeAfter}
 use Rattle.riscv.specs.Refusal.{first}
@@ -23,7 +24,7 @@ use Rattle.control_flow.specs.ControlFlow.{Bits, Kernel}
 use Rattle.join.specs.declared.Asked.{Asked}
 use Rattle.join.specs.declared.JoinHeld.{JoinHeld}
 use Rattle.join.specs.Program.{Edge, Dispatch, namesOf, nextsOf, joinAddress}
-use Rattle.join.specs.Given.{edgesIn, dispatchesIn, noFlag, flagStride, flagFor, dynamicCount, dynamicFor}
+use Rattle.join.specs.Given.{edgesIn, dispatchesIn, Flag, flagStride, flagsIn, flagFor, dynamicsIn, dynamicFor}
 
 -- what the host lends to be written: the list, our name area, the sequentials
 pub record JoinLent : Type 0 where
@@ -52,8 +53,11 @@ edgesOf g = edgesIn (g .asked .edges) (g .edges)
 abbrev pub dispatchesOf : JoinInput → List (Dispatch ℕ)
 dispatchesOf g = dispatchesIn (g .asked .dispatches) (g .dispatches)
 
+abbrev pub flagsOf : JoinInput → List Flag
+flagsOf g = flagsIn (g .asked .flags) (g .flags)
+
 abbrev pub flagOf : JoinInput → ℕ → ℕ
-flagOf g = flagFor (g .asked .flags) (g .flags)
+flagOf g = flagFor (flagsOf g)
 
 abbrev pub zeroIn : State → ℕ
 zeroIn st = role (st .roles) zeroBit .0
@@ -89,42 +93,26 @@ module _ (ws : List ℕ) (n : ℕ) where
   abbrev pub wordOut : ℕ → Bool
   wordOut p = not (eqb (valueSort (lookAt ws n p)) (sortNumber Word))
 
-  -- "an edge whose source has no flag"
-  unfoldable pub edgesUnflagged : (ℕ → ℕ) → List (Edge ℕ) → Bool
-  edgesUnflagged f [] = false
-  edgesUnflagged f (x ∷ xs) = bitOut (f (x .from)) || edgesUnflagged f xs
+  -- "an edge whose source has no flag", and "used or not, a flag": an entry of the table
+  abbrev pub unflagged : (ℕ → ℕ) → Edge ℕ → Bool
+  unflagged f x = bitOut (f (x .from))
 
-  -- "used or not, a flag": the table's entries
-  unfoldable pub tableOut : ℕ → List ℕ → Bool
-  tableOut zero flags = false
-  tableOut (suc k) flags = bitOut (getD flags 1 0) || tableOut k (drop flagStride flags)
-
-  -- the dynamic flags
-  unfoldable pub dynamicsOut : ℕ → List ℕ → Bool
-  dynamicsOut zero dynamics = false
-  dynamicsOut (suc k) dynamics = bitOut (getD dynamics 0 noFlag) || dynamicsOut k (drop 1 dynamics)
+  abbrev pub entryOut : Flag → Bool
+  entryOut x = bitOut (x .place)
 
   -- "with 15 an edge whose source has no flag, or, used or not, a flag, kernel node, dynamic flag or starting flow that isn't a Bit value line"
   unfoldable pub flagsOut : JoinInput → Bool
   flagsOut g =
-      edgesUnflagged (flagOf g) (edgesOf g) || (tableOut (g .asked .flags) (g .flags)
-      || (bitOut (g .asked .mode .0) || (bitOut (g .asked .none .0) || (dynamicsOut dynamicCount (g .dynamics) || bitOut (g .asked .flow .0)))))
+      any (unflagged (flagOf g)) (edgesOf g) || (any entryOut (flagsOf g)
+      || (bitOut (g .asked .mode .0) || (bitOut (g .asked .none .0) || (any bitOut (dynamicsIn (g .dynamics)) || bitOut (g .asked .flow .0)))))
 
   -- "with 16 an unknown origin, a branch record without a Bit condition"
   abbrev pub edgeOut : Edge ℕ → Bool
   edgeOut x = ltb syscallOrigin (x .origin) || (eqb (x .origin) branchOrigin && bitOut (x .condition))
 
-  unfoldable pub edgesOut : List (Edge ℕ) → Bool
-  edgesOut [] = false
-  edgesOut (x ∷ xs) = edgeOut x || edgesOut xs
-
   -- "or a dispatch whose register is x0 or above 31 or whose address node isn't a Word value line"
   abbrev pub dispatchOut : Dispatch ℕ → Bool
   dispatchOut x = eqb (x .register) 0 || (ltb lastRegister (x .register) || wordOut (x .address))
-
-  unfoldable pub dispatchesOut : List (Dispatch ℕ) → Bool
-  dispatchesOut [] = false
-  dispatchesOut (x ∷ xs) = dispatchOut x || dispatchesOut xs
 
 -- ---- 8: what the whole join appends exceeds the list, our area, the sequentials or 1,048,576 lines
 
@@ -145,6 +133,6 @@ joinRefusal l h g =
     ((joinCountsOut l h g, 9)
     ∷ (not (rolesFit ws n 0 (h .state .roles)), 13)
     ∷ (flagsOut ws n g, 15)
-    ∷ ((edgesOut ws n (edgesOf g) || dispatchesOut ws n (dispatchesOf g)), 16)
+    ∷ ((any (edgeOut ws n) (edgesOf g) || any (dispatchOut ws n) (dispatchesOf g)), 16)
     ∷ (joinRoomOut l h g, 8)
     ∷ [])

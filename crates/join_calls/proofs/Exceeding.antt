@@ -10,10 +10,11 @@ use lib.Dec.{ltb}
 use lib.ListN.{length, length-append, getD, drop}
 use lib.Seq.{getD-drop}
 use Rattle.join.specs.Program.{Edge, edgeName, namesOf, nextsBy, nextsOf}
-use Rattle.join.specs.Given.{edgesIn}
+use Rattle.join.specs.Given.{edgeIn, edgesIn}
 use Rattle.join_calls.specs.declared.room.Left.{Left}
 use Rattle.join_calls.specs.Room.{edgeLines, edgesLines, zeroAfter, zeroAfterAll, dispatchLines, edgeExceeds, leftAfter, exceeding}
-use Rattle.join_calls.proofs.Steps.{edges-next}
+use Rattle.edges.specs.Edges.{edgeStride}
+use Rattle.edges.proofs.Records.{records-next}
 
 -- a sum exceeds where its first part does, or where its second exceeds what the first leaves
 pub ltb-add : (a b c : ℕ) → ltb a (b + c) ≡ (ltb a b || ltb (a - b) c)
@@ -51,7 +52,7 @@ module _ (f : ℕ → Bool) (l : Left) where
   pub exceeding-on : (n k : ℕ) (ws : List ℕ) (d : ℕ) → k < n
       → exceeding f l (edgesIn (n - k) (drop (k * 4) ws)) d ≡ (edgeExceeds l (getD ws (k * 4 + 2) 0) (getD ws (k * 4 + 1) 0)
       || exceeding f (leftAfter l (getD ws (k * 4 + 2) 0) (getD ws (k * 4 + 1) 0) (f (getD ws (k * 4 + 1) 0))) (edgesIn (n - (k + 1)) (drop ((k + 1) * 4) ws)) d)
-  exceeding-on n k ws d h = rw (edges-next n k ws h, getD-drop (k * 4) ws 1 0, getD-drop (k * 4) ws 2 0) (exceeding-next _ _ d)
+  exceeding-on n k ws d h = rw (records-next edgeStride edgeIn n k ws h, getD-drop (k * 4) ws 1 0, getD-drop (k * 4) ws 2 0) (exceeding-next _ _ d)
 
 -- an edge that does not exceed has room for each of its parts
 pub record Roomy (l : Left) (origin from : ℕ) : Type 0 where

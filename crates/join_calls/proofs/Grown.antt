@@ -16,6 +16,7 @@ use Rattle.program.specs.Lines.{linesOf, resultOf, placeAfter}
 use Rattle.control_flow.specs.ControlFlow.{Bits, Kernel, controlFlowFromAny, controlFlowFromRegular, controlFlowFromBranch, controlFlowFromEcall, controlFlowFromJalr}
 use Rattle.control_flow.specs.FlagName.{nameAt}
 use Rattle.join.specs.Program.{Edge, Dispatch, edgeName, namesOf, nextsOf, fromEdge, joinEdges, joinDispatches, joinAddress}
+use Rattle.edges.specs.Records.{recordsIn}
 use Rattle.join.specs.Given.{dispatchesIn, dynamicFor}
 use Rattle.join.specs.Refusal.{JoinLent, JoinInput, edgesOf, dispatchesOf, flagOf, zeroIn, bitsIn, kernelIn, joinProgram, joinLineCount, joinRoomOut}
 use Rattle.join.specs.declared.JoinHeld.{JoinHeld}
@@ -138,7 +139,7 @@ module _ (n z : ℕ) (below : z < n) (b : Bits ℕ) (is : (p : ℕ) → b .isZer
 -- ---- the room
 
 dispatches-length : (n : ℕ) (ws : List ℕ) → length (dispatchesIn n ws) ≡ n
-unfolding dispatchesIn
+unfolding recordsIn
 dispatches-length zero ws = refl
 dispatches-length (suc n) ws = ap suc (dispatches-length n (drop 2 ws))
 

@@ -23,7 +23,7 @@ ghost use Rattle.control_flow.specs.FlagName.{nameAt};
 ghost use Rattle.control_flow.specs.ControlFlow.{controlFlowFromEcall, controlFlowFromJalr};
 ghost use Rattle.control_flow.specs.Code.{bitPlaces, kernelPlaces};
 ghost use Rattle.join.specs.Program.{edgeName, namesOf, nextsBy, nextsOf, fromEdge, joinEdges, joinDispatches};
-ghost use Rattle.join.specs.Given.{edgeIn, edgesIn, dispatchIn, dispatchesIn, flagStride, flagFor, dynamicFor};
+ghost use Rattle.join.specs.Given.{edgeIn, edgesIn, dispatchIn, dispatchesIn, flagStride, flagsIn, flagFor, dynamicFor};
 ghost use Rattle.join_calls.specs.Steps.{edgeRecord, Joins, Room, RoomOne};
 
 // The words of an entry of the table of flags: address, place.
@@ -46,7 +46,7 @@ pub(crate) struct Joining {
 // The first flag that the table has for an address.
 pub(crate) fn find_flag(flags: &[u64], count: usize, address: u64) -> NodeRef
     requires { ⌜ count * flagStride ≤ length (now flags) ⌝ }
-    ensures { λ r. ⌜ r .0 ≡ flagFor count (now (flags .entry)) address ⌝ }
+    ensures { λ r. ⌜ r .0 ≡ flagFor (flagsIn count (now (flags .entry))) address ⌝ }
 {
     let mut i = 0;
     while i < count {
@@ -150,7 +150,7 @@ fn join_edge(
     j: Joining,
 ) -> Joining
     requires { ⌜ (done * edgeStride + edgeStride ≤ length (now edges)) × (count * flagStride ≤ length (now flags)) × RoomOne j (edgeIn (drop (done * edgeStride) (now edges)) .origin) (edgeIn (drop (done * edgeStride) (now edges)) .from) ⌝ }
-    ensures { λ r. ⌜ Joins (now (list .entry)) (now (names .entry)) (now (sequentials .entry)) j (fromEdge (bitPlaces b) (kernelPlaces k) (flagFor count (now (flags .entry))) (j .names) (edgeIn (drop (done * edgeStride) (now (edges .entry)))) (j .flow .0)) (edgeName (edgeIn (drop (done * edgeStride) (now (edges .entry))) .origin) (edgeIn (drop (done * edgeStride) (now (edges .entry))) .from)) (nextsBy (edgeIn (drop (done * edgeStride) (now (edges .entry))) .origin)) (now (list .exit)) (now (names .exit)) (now (sequentials .exit)) r ⌝ }
+    ensures { λ r. ⌜ Joins (now (list .entry)) (now (names .entry)) (now (sequentials .entry)) j (fromEdge (bitPlaces b) (kernelPlaces k) (flagFor (flagsIn count (now (flags .entry)))) (j .names) (edgeIn (drop (done * edgeStride) (now (edges .entry)))) (j .flow .0)) (edgeName (edgeIn (drop (done * edgeStride) (now (edges .entry))) .origin) (edgeIn (drop (done * edgeStride) (now (edges .entry))) .from)) (nextsBy (edgeIn (drop (done * edgeStride) (now (edges .entry))) .origin)) (now (list .exit)) (now (names .exit)) (now (sequentials .exit)) r ⌝ }
 {
     let at = done * edges::EDGE;
     let from = edges[at + 1];
@@ -185,7 +185,7 @@ pub(crate) fn join_edges(
     j: Joining,
 ) -> Joining
     requires { ⌜ (number * edgeStride ≤ length (now edges)) × (count * flagStride ≤ length (now flags)) × Room j (edgesIn number (now edges)) ⌝ }
-    ensures { λ r. ⌜ Joins (now (list .entry)) (now (names .entry)) (now (sequentials .entry)) j (joinEdges (bitPlaces b) (kernelPlaces k) (flagFor count (now (flags .entry))) (j .names) (edgesIn number (now (edges .entry))) (j .flow .0)) (namesOf (edgesIn number (now (edges .entry)))) (nextsOf (edgesIn number (now (edges .entry)))) (now (list .exit)) (now (names .exit)) (now (sequentials .exit)) r ⌝ }
+    ensures { λ r. ⌜ Joins (now (list .entry)) (now (names .entry)) (now (sequentials .entry)) j (joinEdges (bitPlaces b) (kernelPlaces k) (flagFor (flagsIn count (now (flags .entry)))) (j .names) (edgesIn number (now (edges .entry))) (j .flow .0)) (namesOf (edgesIn number (now (edges .entry)))) (nextsOf (edgesIn number (now (edges .entry)))) (now (list .exit)) (now (names .exit)) (now (sequentials .exit)) r ⌝ }
 {
     let mut at = j;
     let mut done = 0;

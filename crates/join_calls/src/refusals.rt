@@ -16,10 +16,11 @@ ghost use mathlib.Core.Path.{_≡_};
 ghost use mathlib.Core.Bool.{_||_};
 ghost use Prim.Native.Nat.{_*_, _≤_};
 ghost use lib.ListN.{length};
+ghost use Rattle.list_check.specs.Lines.{any};
 ghost use Rattle.edges.specs.Edges.{edgeStride};
 ghost use Rattle.edges.specs.Records.{dispatchStride};
-ghost use Rattle.join.specs.Given.{edgesIn, dispatchesIn, flagStride, flagFor, dynamicCount};
-ghost use Rattle.join.specs.Refusal.{bitOut, wordOut, edgesUnflagged, tableOut, dynamicsOut, edgeOut, edgesOut, dispatchOut, dispatchesOut};
+ghost use Rattle.join.specs.Given.{edgesIn, dispatchesIn, flagStride, flagsIn, flagFor, dynamicsIn};
+ghost use Rattle.join.specs.Refusal.{bitOut, wordOut, unflagged, entryOut, edgeOut, dispatchOut};
 ghost use Rattle.join_calls.specs.Steps.{edgeRecord, dispatchRecord};
 
 // 15: an edge whose source has no flag, or, used or not, a flag of the table, a kernel node, a dynamic flag or the starting flow that is no Bit
@@ -36,7 +37,7 @@ pub(crate) fn flags_out(
     flow: NodeRef,
 ) -> bool
     requires { ⌜ (number * edgeStride ≤ length (now edges)) × (count * flagStride ≤ length (now flags)) ⌝ }
-    ensures { λ r. ⌜ r ≡ (edgesUnflagged (now (list .entry)) lines (flagFor count (now (flags .entry))) (edgesIn number (now (edges .entry))) || (tableOut (now (list .entry)) lines count (now (flags .entry)) || (bitOut (now (list .entry)) lines (k .mode .0) || (bitOut (now (list .entry)) lines (k .none .0) || (dynamicsOut (now (list .entry)) lines dynamicCount (now (dynamics .entry)) || bitOut (now (list .entry)) lines (flow .0)))))) ⌝ }
+    ensures { λ r. ⌜ r ≡ (any (unflagged (now (list .entry)) lines (flagFor (flagsIn count (now (flags .entry))))) (edgesIn number (now (edges .entry))) || (any (entryOut (now (list .entry)) lines) (flagsIn count (now (flags .entry))) || (bitOut (now (list .entry)) lines (k .mode .0) || (bitOut (now (list .entry)) lines (k .none .0) || (any (bitOut (now (list .entry)) lines) (dynamicsIn (now (dynamics .entry))) || bitOut (now (list .entry)) lines (flow .0)))))) ⌝ }
 {
     let mode = k.mode;
     let none = k.none;
@@ -57,7 +58,7 @@ fn edges_unflagged(
     count: usize,
 ) -> bool
     requires { ⌜ (number * edgeStride ≤ length (now edges)) × (count * flagStride ≤ length (now flags)) ⌝ }
-    ensures { λ r. ⌜ r ≡ edgesUnflagged (now (list .entry)) lines (flagFor count (now (flags .entry))) (edgesIn number (now (edges .entry))) ⌝ }
+    ensures { λ r. ⌜ r ≡ any (unflagged (now (list .entry)) lines (flagFor (flagsIn count (now (flags .entry))))) (edgesIn number (now (edges .entry))) ⌝ }
 {
     let mut i = 0;
     while i < number {
@@ -73,7 +74,7 @@ fn edges_unflagged(
 // An entry of the table whose place is no Bit value line.
 fn table_out(list: &[u64], lines: usize, flags: &[u64], count: usize) -> bool
     requires { ⌜ count * flagStride ≤ length (now flags) ⌝ }
-    ensures { λ r. ⌜ r ≡ tableOut (now (list .entry)) lines count (now (flags .entry)) ⌝ }
+    ensures { λ r. ⌜ r ≡ any (entryOut (now (list .entry)) lines) (flagsIn count (now (flags .entry))) ⌝ }
 {
     let mut i = 0;
     while i < count {
@@ -88,7 +89,7 @@ fn table_out(list: &[u64], lines: usize, flags: &[u64], count: usize) -> bool
 
 // A dynamic flag that is no Bit value line. A slice of the array tells the prover its length.
 fn dynamics_out(list: &[u64], lines: usize, dynamics: &[u64; 31]) -> bool
-    ensures { λ r. ⌜ r ≡ dynamicsOut (now (list .entry)) lines dynamicCount (now (dynamics .entry)) ⌝ }
+    ensures { λ r. ⌜ r ≡ any (bitOut (now (list .entry)) lines) (dynamicsIn (now (dynamics .entry))) ⌝ }
 {
     let all = &dynamics[..];
     let mut i = 0;
@@ -105,7 +106,7 @@ fn dynamics_out(list: &[u64], lines: usize, dynamics: &[u64; 31]) -> bool
 // 16, of the edges.
 pub(crate) fn edges_out(list: &[u64], lines: usize, edges: &[u64], number: usize) -> bool
     requires { ⌜ number * edgeStride ≤ length (now edges) ⌝ }
-    ensures { λ r. ⌜ r ≡ edgesOut (now (list .entry)) lines (edgesIn number (now (edges .entry))) ⌝ }
+    ensures { λ r. ⌜ r ≡ any (edgeOut (now (list .entry)) lines) (edgesIn number (now (edges .entry))) ⌝ }
 {
     let mut i = 0;
     while i < number {
@@ -129,7 +130,7 @@ fn edge_out(list: &[u64], lines: usize, origin: u64, condition: NodeRef) -> bool
 // 16, of the dispatches.
 pub(crate) fn dispatches_out(list: &[u64], lines: usize, dispatches: &[u64], number: usize) -> bool
     requires { ⌜ number * dispatchStride ≤ length (now dispatches) ⌝ }
-    ensures { λ r. ⌜ r ≡ dispatchesOut (now (list .entry)) lines (dispatchesIn number (now (dispatches .entry))) ⌝ }
+    ensures { λ r. ⌜ r ≡ any (dispatchOut (now (list .entry)) lines) (dispatchesIn number (now (dispatches .entry))) ⌝ }
 {
     let mut i = 0;
     while i < number {

@@ -13,7 +13,7 @@ ghost use lib.Dec.{eqb};
 ghost use lib.ListN.{length};
 ghost use Rattle.edges.specs.Edges.{edgeStride};
 ghost use Rattle.join.specs.Program.{edgeName, nextsBy};
-ghost use Rattle.join.specs.Given.{edgesIn, flagStride, flagFor};
+ghost use Rattle.join.specs.Given.{edgesIn, flagStride, flagsIn, flagFor};
 ghost use Rattle.join_calls.specs.Room.{ownLines, edgeLines, zeroAfter, dispatchLines, leftAfter, edgeExceeds, exceeding};
 
 // The room that is left for lines, bytes of names and sequentials, and whether the flow is the zero bit's own place, which is replaced without a
@@ -36,7 +36,7 @@ pub(crate) fn room_exceeded(
     room: Left,
 ) -> bool
     requires { ⌜ (number * edgeStride ≤ length (now edges)) × (count * flagStride ≤ length (now flags)) × (dispatches < 2 ^ 62) ⌝ }
-    ensures { λ r. ⌜ r ≡ exceeding (λ a. eqb (flagFor count (now (flags .entry)) a) (zero .0)) room (edgesIn number (now (edges .entry))) dispatches ⌝ }
+    ensures { λ r. ⌜ r ≡ exceeding (λ a. eqb (flagFor (flagsIn count (now (flags .entry))) a) (zero .0)) room (edgesIn number (now (edges .entry))) dispatches ⌝ }
 {
     let mut left = room;
     let mut i = 0;

@@ -7,6 +7,7 @@ use native.Mathlib.Omega.{arith}
 use lib.ListN.{length, getD, take, drop}
 use lib.Seq.{sets, sets-eq, take-suc, length-take-le}
 use Rattle.edges.specs.Edges.{edgeStride}
+use Rattle.edges.specs.Records.{recordsIn}
 use Rattle.text.proofs.Laws.{sets-append}
 use Rattle.join.specs.Program.{Edge}
 use Rattle.join.specs.Given.{edgesIn}
@@ -33,7 +34,7 @@ put-next ws es i d h =
 
 -- the first edges in the words of records are those of the first records, whatever words follow these
 front : (n : ℕ) (es : List InEdge) (rest : List ℕ) → n ≤ length es → edgesIn n (edgeWords (take n es) ++ rest) ≡ edgesIn n (edgeWords es)
-unfolding edgesIn edgeWords
+unfolding recordsIn edgeWords
 front zero es rest h = refl
 front (suc n) [] rest h = absurd (omega arith)
 front (suc n) (e ∷ es) rest h = ap (λ (xs : List (Edge ℕ)). record { from = e .from; origin = e .origin; condition = e .condition .0 } ∷ xs) (front n es rest (omega arith))

@@ -38,12 +38,14 @@ use Rattle.meaning.proofs.Behind.{inside}
 use Rattle.roles_kept.proofs.Views.{operators-length, numbered-operators, map-append, look-is}
 use Rattle.roles_kept.proofs.RoleSets.{Fit, fit-given, given-fit, fit-node}
 use Rattle.join.specs.Program.{Edge, Dispatch, joinAddress}
-use Rattle.join.specs.Given.{dynamicCount, dynamicFor, noFlag, dispatchesIn}
+use Rattle.edges.specs.Records.{recordsIn}
+use Rattle.list_check.specs.Lines.{any}
+use Rattle.join.specs.Given.{dynamicCount, dynamicsIn, dynamicFor, noFlag}
 use Rattle.control_flow.specs.Listed.{Listed, listed, appendListed}
 use Rattle.join.specs.Program.{namesOf, nextsOf}
 use Rattle.control_flow.proofs.Lists.{forgets}
 use Rattle.join.specs.declared.JoinHeld.{JoinHeld}
-use Rattle.join.specs.Refusal.{JoinLent, JoinInput, edgesOf, dispatchesOf, flagOf, bitsIn, kernelIn, joinProgram, joinCountsOut, bitOut, wordOut, edgesUnflagged, tableOut, dynamicsOut, flagsOut, edgesOut, dispatchesOut, joinLineCount, joinRoomOut, joinRefusal}
+use Rattle.join.specs.Refusal.{JoinLent, JoinInput, edgesOf, dispatchesOf, flagsOf, flagOf, bitsIn, kernelIn, joinProgram, joinCountsOut, bitOut, wordOut, unflagged, entryOut, flagsOut, edgeOut, dispatchOut, joinLineCount, joinRoomOut, joinRefusal}
 use Rattle.join.specs.Join.{JoinAnswer, joinStore, joinSettled, joining}
 use Rattle.join.proofs.Numbers.{Passed, passed}
 use Rattle.join_laws.specs.Push.{pushed}
@@ -74,8 +76,8 @@ laid-pushed {X} p m ws t r l =
 
 -- ---- the dynamic flags
 
-one-in : (ws : List ℕ) (n k : ℕ) (ds : List ℕ) → dynamicsOut ws n k ds ≡ false → (i : ℕ) → i < k → bitOut ws n (getD ds i noFlag) ≡ false
-unfolding dynamicsOut
+one-in : (ws : List ℕ) (n k : ℕ) (ds : List ℕ) → any (bitOut ws n) (recordsIn 1 (λ rest. getD rest 0 noFlag) k ds) ≡ false → (i : ℕ) → i < k → bitOut ws n (getD ds i noFlag) ≡ false
+unfolding recordsIn
 one-in ws n zero ds o i h = absurd (omega arith)
 one-in ws n (suc k) ds o zero h = neither (bitOut ws n (getD ds 0 noFlag)) _ o .0
 one-in ws n (suc k) ds o (suc i) h = next ds (one-in ws n k (drop 1 ds) (neither (bitOut ws n (getD ds 0 noFlag)) _ o .1) i (omega arith))
@@ -84,7 +86,7 @@ one-in ws n (suc k) ds o (suc i) h = next ds (one-in ws n k (drop 1 ds) (neither
     next [] q = q
     next (d ∷ ds) q = q
 
-dynamic-in : (ws : List ℕ) (n : ℕ) (ds : List ℕ) → dynamicsOut ws n dynamicCount ds ≡ false → (r : ℕ) → eqb r 0 ≡ false → r ≤ lastRegister → bitOut ws n (dynamicFor ds r) ≡ false
+dynamic-in : (ws : List ℕ) (n : ℕ) (ds : List ℕ) → any (bitOut ws n) (dynamicsIn ds) ≡ false → (r : ℕ) → eqb r 0 ≡ false → r ≤ lastRegister → bitOut ws n (dynamicFor ds r) ≡ false
 dynamic-in ws n ds o r z m = let more : r ≡ 0 → ⊥ = eqb-false r 0 z in rw z (one-in ws n dynamicCount ds o (r - 1) (omega (arith, more)))
 
 module _ (l : JoinLent) (h : JoinHeld) (g : JoinInput) (e : joinRefusal l h g ≡ 0) where
@@ -148,8 +150,7 @@ module _ (l : JoinLent) (h : JoinHeld) (g : JoinInput) (sorted : T (meetsSortRul
 
   -- ---- the sort rule
 
-  sorts : (es : List (Edge ℕ)) → edgesUnflagged (l .list) n (flagOf g) es ≡ false → edgesOut (l .list) n es ≡ false → S.AllSorts (bitsIn (h .state)) (kernelIn g) (flagOf g) xs es
-  unfolding edgesUnflagged edgesOut
+  sorts : (es : List (Edge ℕ)) → any (unflagged (l .list) n (flagOf g)) es ≡ false → any (edgeOut (l .list) n) es ≡ false → S.AllSorts (bitsIn (h .state)) (kernelIn g) (flagOf g) xs es
   sorts [] u o = tt
   sorts (x ∷ es) u o =
       let a = neither (bitOut (l .list) n (flagOf g (x .from))) _ u in
@@ -159,9 +160,8 @@ module _ (l : JoinLent) (h : JoinHeld) (g : JoinInput) (sorted : T (meetsSortRul
         sorts es (a .1) (c .1),
       )
 
-  dispatch-sorts : (ds : List (Dispatch ℕ)) → dispatchesOut (l .list) n ds ≡ false → dynamicsOut (l .list) n dynamicCount (g .dynamics) ≡ false
+  dispatch-sorts : (ds : List (Dispatch ℕ)) → any (dispatchOut (l .list) n) ds ≡ false → any (bitOut (l .list) n) (dynamicsIn (g .dynamics)) ≡ false
       → S.AllDispatched (bitsIn (h .state)) (kernelIn g) (flagOf g) (λ r. registerNode (h .state .roles) r .0) (dynamicFor (g .dynamics)) xs ds
-  unfolding dispatchesOut
   dispatch-sorts [] o d = tt
   dispatch-sorts (x ∷ ds) o d =
       let a = neither (eqb (x .register) 0 || (ltb lastRegister (x .register) || wordOut (l .list) n (x .address))) _ o in
@@ -176,20 +176,20 @@ module _ (l : JoinLent) (h : JoinHeld) (g : JoinInput) (sorted : T (meetsSortRul
       )
 
   pub record Flagged : Type 0 where
-    pub edges : edgesUnflagged (l .list) n (flagOf g) (edgesOf g) ≡ false
+    pub edges : any (unflagged (l .list) n (flagOf g)) (edgesOf g) ≡ false
     pub mode : bitOut (l .list) n (g .asked .mode .0) ≡ false
     pub none : bitOut (l .list) n (g .asked .none .0) ≡ false
-    pub dynamics : dynamicsOut (l .list) n dynamicCount (g .dynamics) ≡ false
+    pub dynamics : any (bitOut (l .list) n) (dynamicsIn (g .dynamics)) ≡ false
     pub flow : bitOut (l .list) n (g .asked .flow .0) ≡ false
 
   flagged : Flagged
   unfolding flagsOut
   flagged =
-      let f1 = neither (edgesUnflagged (l .list) n (flagOf g) (edgesOf g)) _ (its l h g e .flags) in
-      let f2 = neither (tableOut (l .list) n (g .asked .flags) (g .flags)) _ (f1 .1) in
+      let f1 = neither (any (unflagged (l .list) n (flagOf g)) (edgesOf g)) _ (its l h g e .flags) in
+      let f2 = neither (any (entryOut (l .list) n) (flagsOf g)) _ (f1 .1) in
       let f3 = neither (bitOut (l .list) n (g .asked .mode .0)) _ (f2 .1) in
       let f4 = neither (bitOut (l .list) n (g .asked .none .0)) _ (f3 .1) in
-      let f5 = neither (dynamicsOut (l .list) n dynamicCount (g .dynamics)) _ (f4 .1) in
+      let f5 = neither (any (bitOut (l .list) n) (dynamicsIn (g .dynamics))) _ (f4 .1) in
       record { edges = f1 .0; mode = f3 .0; none = f4 .0; dynamics = f5 .0; flow = f5 .1 }
 
   ruled : S.Ruled xs (pushed xs (joinProgram (h .state) g))
@@ -210,8 +210,7 @@ module _ (l : JoinLent) (h : JoinHeld) (g : JoinInput) (sorted : T (meetsSortRul
     bit : (p : ℕ) → bitOut (l .list) n p ≡ false → Act.Bit env xs p
     bit p o = record { place = inside B1 xs p (is-bit p o); bound = value-fits env xs sorted B1 p (is-bit p o) .bits tt }
 
-    sound : (es : List (Edge ℕ)) → edgesUnflagged (l .list) n (flagOf g) es ≡ false → edgesOut (l .list) n es ≡ false → Act.AllSound env (flagOf g) (kernelIn g) xs es
-    unfolding edgesUnflagged edgesOut
+    sound : (es : List (Edge ℕ)) → any (unflagged (l .list) n (flagOf g)) es ≡ false → any (edgeOut (l .list) n) es ≡ false → Act.AllSound env (flagOf g) (kernelIn g) xs es
     sound [] u o = tt
     sound (x ∷ es) u o =
         let a = neither (bitOut (l .list) n (flagOf g (x .from))) _ u in
@@ -221,9 +220,8 @@ module _ (l : JoinLent) (h : JoinHeld) (g : JoinInput) (sorted : T (meetsSortRul
           sound es (a .1) (c .1),
         )
 
-    reached : (ds : List (Dispatch ℕ)) → dispatchesOut (l .list) n ds ≡ false → dynamicsOut (l .list) n dynamicCount (g .dynamics) ≡ false
+    reached : (ds : List (Dispatch ℕ)) → any (dispatchOut (l .list) n) ds ≡ false → any (bitOut (l .list) n) (dynamicsIn (g .dynamics)) ≡ false
         → Act.AllReached env (λ r. registerNode (h .state .roles) r .0) (dynamicFor (g .dynamics)) xs ds
-    unfolding dispatchesOut
     reached [] o d = tt
     reached (x ∷ ds) o d =
         let a = neither (eqb (x .register) 0 || (ltb lastRegister (x .register) || wordOut (l .list) n (x .address))) _ o in
@@ -266,7 +264,7 @@ module _ (l : JoinLent) (h : JoinHeld) (g : JoinInput) (sorted : T (meetsSortRul
 
       plain-in : Act.NoSyscall (edgesOf g) → g .asked .dispatches ≡ 0
           → Act.on env (operators (full .state .store .words) (full .state .store .tally .lines)) (full .value) ≡ (Act.anyPlain env (flagOf g) xs (edgesOf g) || Act.on env xs (g .asked .flow .0))
-      unfolding joinProgram dispatchesIn
+      unfolding joinProgram recordsIn
       plain-in o d =
           ap (λ (r : Run (List (Op ℕ)) ℕ). Act.on env (r .state) (r .value)) (as-pushed full forgot)
           ∙ rw d

@@ -21,9 +21,9 @@ some zero test = false
 some (suc n) test = some n test || test n
 
 -- some entry of a list passes a test
-abbrev pub any : (ℕ → Bool) → List ℕ → Bool
+abbrev pub any : {A : Type 0} → (A → Bool) → List A → Bool
 any test [] = false
-any test (q ∷ qs) = test q || any test qs
+any test (x ∷ xs) = test x || any test xs
 
 -- the words do not hold n lines
 abbrev pub pastWords : List ℕ → ℕ → Bool

@@ -1,10 +1,11 @@
 -- Many calls in one: each by `lowering`, from what the one before it left, up to the first that is refused.
-use Prim.Native.Nat.{ℕ, zero, suc, _+_, _/_}
+use Prim.Native.Nat.{ℕ, _+_, _/_}
 use mathlib.Core.Bool.{cond, true, false}
 use mathlib.Core.List.{List, [], _∷_}
 use lib.Dec.{eqb, ltb}
-use lib.ListN.{length, getD, drop}
+use lib.ListN.{length, getD}
 use Rattle.btor2.specs.declared.NodeRef.{NodeRef}
+use Rattle.edges.specs.Records.{recordsIn}
 use Rattle.riscv.specs.declared.Instruction.{Instruction}
 use Rattle.lowering_refusals.specs.declared.State.{State}
 use Rattle.lowering.specs.Lowering.{Lent, lowering}
@@ -28,9 +29,8 @@ callIn ws = record {
 }
 
 -- the first n calls of words
-unfoldable pub callsIn : ℕ → List ℕ → List LowerCall
-callsIn zero ws = []
-callsIn (suc n) ws = callIn ws ∷ callsIn n (drop callWords ws)
+abbrev pub callsIn : ℕ → List ℕ → List LowerCall
+callsIn n ws = recordsIn callWords callIn n ws
 
 -- ---- one after the other
 

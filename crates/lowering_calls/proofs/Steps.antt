@@ -1,5 +1,5 @@
 -- One call of many, and the words of what is left. Assumes nothing.
-use Prim.Native.Nat.{ℕ, suc, _+_, _-_, _*_, _/_, _≤_, _<_}
+use Prim.Native.Nat.{ℕ, _+_, _-_, _*_, _/_, _≤_}
 use mathlib.Core.Path.{_≡_, subst}
 use mathlib.Core.Bool.{Bool, true, false}
 use mathlib.Core.List.{List, _∷_}
@@ -7,10 +7,10 @@ use native.Mathlib.Omega.{arith}
 use borrow.Author.Tests.{eq-eqb, ne-eqb}
 use lib.Dec.{eqb}
 use lib.ListN.{length, drop}
-use lib.Seq.{drop-drop}
+use Rattle.edges.proofs.Records.{records-none}
 use Rattle.lowering.specs.Lowering.{Lent}
 use Rattle.lowering.specs.Words.{Given}
-use Rattle.lowering.specs.All.{LowerCall, callIn, callsIn, GivenAll, givenAll}
+use Rattle.lowering.specs.All.{LowerCall, callWords, callIn, callsIn, GivenAll, givenAll}
 use Rattle.lowering_calls.specs.Known.{knownWords, wordsOn, wordsAll}
 
 -- at the start
@@ -18,18 +18,10 @@ pub from-none : (fits : Bool) (l : Lent) (ws calls : List ℕ) → wordsOn fits 
 unfolding wordsAll
 from-none fits l ws calls = let all : length calls / 7 - 0 ≡ length calls / 7 = omega arith in rw all
 
--- the next call's words, and those after them
-pub calls-next : (n k : ℕ) (ws : List ℕ) → k < n → callsIn (n - k) (drop (k * 7) ws) ≡ callIn (drop (k * 7) ws) ∷ callsIn (n - (k + 1)) (drop ((k + 1) * 7) ws)
-unfolding callsIn
-calls-next n k ws h =
-    let more : n - k ≡ suc (n - (k + 1)) = omega arith in
-    let on : k * 7 + 7 ≡ (k + 1) * 7 = omega arith in
-    rw (more, drop-drop 7 (k * 7) ws, on)
-
 -- none is left
 pub ends : (fits : Bool) (n k : ℕ) (l : Lent) (ws calls : List ℕ) → n ≤ k → givenAll k 0 l ws ≡ wordsOn fits k l ws (callsIn (n - k) calls)
-unfolding callsIn wordsOn
-ends fits n k l ws calls h = let none : n - k ≡ 0 = omega arith in rw none
+unfolding wordsOn
+ends fits n k l ws calls h = rw (records-none callWords callIn n k calls h)
 
 module _ (fits : Bool) (l : Lent) (ws : List ℕ) (c : LowerCall) (g : Given) (is : g ≡ knownWords fits l ws (c .instruction) (c .address) (c .flag)) (done : ℕ) (cs : List LowerCall) where
   -- what is made of an answer

@@ -7,9 +7,10 @@ use denote.Ref.{now}
 use lib.ListN.{length, drop}
 use Rattle.lowering.specs.Lowering.{lent}
 use Rattle.lowering.specs.Words.{given}
-use Rattle.lowering.specs.All.{callIn, callsIn}
+use Rattle.edges.proofs.Records.{records-next}
+use Rattle.lowering.specs.All.{callWords, callIn, callsIn}
 use Rattle.lowering_calls.specs.Known.{wordsOn, wordsAll}
-use Rattle.lowering_calls.proofs.Steps.{from-none, calls-next, ends, stops, goes-on}
+use Rattle.lowering_calls.proofs.Steps.{from-none, ends, stops, goes-on}
 use Rattle.lowering_calls.proofs.lower_rest.Statement.{statement}
 use Rattle.lowering_calls.proofs.lower_rest.Tie as tie
 
@@ -45,7 +46,7 @@ returns c =
     let next = callIn (drop (at .loop .done * 7) (now (a .calls))) in
     let left = callsIn (length (now (a .calls)) / 7 - (at .loop .done + 1)) (drop ((at .loop .done + 1) * 7) (now (a .calls))) in
     stops (a .fits) here (at .loop .state) next gave (rw (← told .call-at .ensures .0, ← told .call-at .ensures .1 .0, ← told .call-at .ensures .1 .1) (call .lower-known .ensures)) (at .loop .done) left (c .if1 .taken)
-    ∙ ap (wordsOn (a .fits) (at .loop .done) here (at .loop .state)) (sym (calls-next (length (now (a .calls)) / 7) (at .loop .done) (now (a .calls)) (omega arith)))
+    ∙ ap (wordsOn (a .fits) (at .loop .done) here (at .loop .state)) (sym (records-next callWords callIn (length (now (a .calls)) / 7) (at .loop .done) (now (a .calls)) (omega arith)))
     ∙ at .loop .inv .3
 
 add-done : tie.Need-add-done Inv-loop μ-loop
@@ -68,7 +69,7 @@ loop-again c =
       omega arith,
       refl,
       goes-on (a .fits) here (at .loop .state) next gave (rw (← told .call-at .ensures .0, ← told .call-at .ensures .1 .0, ← told .call-at .ensures .1 .1) (call .lower-known .ensures)) (at .loop .done) left (c .if1 .left)
-          ∙ ap (wordsOn (a .fits) (at .loop .done) here (at .loop .state)) (sym (calls-next (length (now (a .calls)) / 7) (at .loop .done) (now (a .calls)) (omega arith)))
+          ∙ ap (wordsOn (a .fits) (at .loop .done) here (at .loop .state)) (sym (records-next callWords callIn (length (now (a .calls)) / 7) (at .loop .done) (now (a .calls)) (omega arith)))
           ∙ at .loop .inv .3,
     )
 

@@ -5,13 +5,13 @@ use native.Mathlib.Omega.{arith}
 use borrow.Author.Tests.{eq-eqb, ne-eqb}
 use denote.Ref.{now}
 use lib.ListN.{drop}
-use Rattle.join.specs.Given.{flagFor}
+use Rattle.join.specs.Given.{flagsIn, flagFor}
 use Rattle.join_calls.proofs.Steps.{flag-next, flag-none}
 use Rattle.join_calls.proofs.lines.find_flag.Statement.{statement}
 use Rattle.join_calls.proofs.lines.find_flag.Tie as tie
 
 abbrev Inv-loop : tie.InvT-loop
-Inv-loop flags count address i₀ i = (i ≤ count) × (flagFor (count - i) (drop (i * 2) flags) address ≡ flagFor count flags address)
+Inv-loop flags count address i₀ i = (i ≤ count) × (flagFor (flagsIn (count - i) (drop (i * 2) flags)) address ≡ flagFor (flagsIn count flags) address)
 
 abbrev μ-loop : tie.MeasureT-loop
 μ-loop flags count address i₀ i = count - i

@@ -6,9 +6,10 @@ use borrow.Author.Needs.{needs}
 use denote.Ref.{now}
 use lib.ListN.{length, drop}
 use Rattle.roles.specs.Roles.{registerNode}
-use Rattle.join.specs.Given.{dispatchesIn, dynamicFor}
+use Rattle.edges.specs.Records.{dispatchStride}
+use Rattle.join.specs.Given.{dispatchIn, dispatchesIn, dynamicFor}
 use Rattle.control_flow.specs.Code.{bitPlaces}
-use Rattle.join_calls.proofs.Steps.{dispatches-next, dispatches-none}
+use Rattle.edges.proofs.Records.{records-next, records-none}
 use Rattle.join_calls.proofs.Going.{Dispatching, dispatching, dispatch-goes, dispatch-ends}
 use Rattle.join_calls.proofs.lines.join_dispatches.Statement.{statement}
 use Rattle.join_calls.proofs.lines.join_dispatches.Tie as tie
@@ -32,13 +33,13 @@ loop-again c =
     let m = c .before .before in
     let at = m .before .before .before in
     let a = at .before .before .before .args in
-    (search needs, omega arith, dispatch-goes _ _ _ (m .join-dispatch .ensures) (rw (dispatches-next (a .number) (at .loop .done) (now (a .dispatches)) (omega arith)) at (at .loop .inv .2)))
+    (search needs, omega arith, dispatch-goes _ _ _ (m .join-dispatch .ensures) (rw (records-next dispatchStride dispatchIn (a .number) (at .loop .done) (now (a .dispatches)) (omega arith)) at (at .loop .inv .2)))
 
 returns : tie.Need-returns Inv-loop μ-loop
 returns c =
     let at = c .before in
     let a = at .before .before .before .args in
-    dispatch-ends _ _ _ (rw (dispatches-none (a .number) (at .loop .done) (drop (at .loop .done * 2) (now (a .dispatches))) (omega arith)) at (at .loop .inv .2))
+    dispatch-ends _ _ _ (rw (records-none dispatchStride dispatchIn (a .number) (at .loop .done) (drop (at .loop .done * 2) (now (a .dispatches))) (omega arith)) at (at .loop .inv .2))
 
 pub join-dispatches-spec : {M : Type 1} → statement M
 join-dispatches-spec = tie.close (tie.spec Inv-loop μ-loop loop-holds (λ c κs. omega arith) (λ c. omega arith) (λ c. omega arith) loop-again (λ c. search needs) returns)

@@ -5,9 +5,10 @@ use native.Mathlib.Omega.{arith}
 use borrow.Author.Needs.{needs}
 use denote.Ref.{now}
 use lib.ListN.{length, drop}
-use Rattle.join.specs.Given.{edgesIn, flagFor}
+use Rattle.edges.specs.Edges.{edgeStride}
+use Rattle.join.specs.Given.{edgeIn, edgesIn, flagsIn, flagFor}
 use Rattle.control_flow.specs.Code.{bitPlaces, kernelPlaces}
-use Rattle.join_calls.proofs.Steps.{edges-next, edges-none}
+use Rattle.edges.proofs.Records.{records-next, records-none}
 use Rattle.join_calls.proofs.Going.{Going, begins, one-of, goes, ends}
 use Rattle.join_calls.proofs.lines.join_edges.Statement.{statement}
 use Rattle.join_calls.proofs.lines.join_edges.Tie as tie
@@ -16,7 +17,7 @@ abbrev Inv-loop : tie.InvT-loop
 Inv-loop list₀ names₀ sequentials₀ edges number flags count b k at₀ done₀ list names sequentials at done =
     ((length list ≡ length list₀) × (length names ≡ length names₀) × (length sequentials ≡ length sequentials₀))
     × (done ≤ number)
-    × Going (bitPlaces b) (kernelPlaces k) (flagFor count flags) list names sequentials at (edgesIn (number - done) (drop (done * 4) edges)) list₀ names₀ sequentials₀ at₀ (edgesIn number edges)
+    × Going (bitPlaces b) (kernelPlaces k) (flagFor (flagsIn count flags)) list names sequentials at (edgesIn (number - done) (drop (done * 4) edges)) list₀ names₀ sequentials₀ at₀ (edgesIn number edges)
 
 abbrev μ-loop : tie.MeasureT-loop
 μ-loop list₀ names₀ sequentials₀ edges number flags count b k at₀ done₀ list names sequentials at done = number - done
@@ -35,7 +36,7 @@ join-edge-requires c κs =
     let done = at .loop .done in (
       omega arith,
       start .pre .1,
-      one-of _ _ _ (rw (edges-next (a .number) done (now (a .edges)) (omega arith)) at (at .loop .inv .2)) (start .pre .2),
+      one-of _ _ _ (rw (records-next edgeStride edgeIn (a .number) done (now (a .edges)) (omega arith)) at (at .loop .inv .2)) (start .pre .2),
     )
 
 loop-again : tie.Need-loop-again Inv-loop μ-loop
@@ -47,14 +48,14 @@ loop-again c =
     let done = at .loop .done in (
       (search needs, search needs, search needs),
       omega arith,
-      goes _ _ _ (m .join-edge .ensures) (rw (edges-next (a .number) done (now (a .edges)) (omega arith)) at (at .loop .inv .2)),
+      goes _ _ _ (m .join-edge .ensures) (rw (records-next edgeStride edgeIn (a .number) done (now (a .edges)) (omega arith)) at (at .loop .inv .2)),
     )
 
 returns : tie.Need-returns Inv-loop μ-loop
 returns c =
     let at = c .before in
     let a = at .before .before .before .before .before .before .args in
-    ends _ _ _ (rw (edges-none (a .number) (at .loop .done) (drop (at .loop .done * 4) (now (a .edges))) (omega arith)) at (at .loop .inv .2))
+    ends _ _ _ (rw (records-none edgeStride edgeIn (a .number) (at .loop .done) (drop (at .loop .done * 4) (now (a .edges))) (omega arith)) at (at .loop .inv .2))
 
 pub join-edges-spec : {M : Type 1} → statement M
 join-edges-spec =

@@ -1,18 +1,22 @@
 -- What is left of the dispatches gives what all do. Assumes nothing.
 use Prim.Native.Nat.{_*_, _-_, _≤_}
-use mathlib.Core.Path.{_≡_, sym, _∙_}
+use mathlib.Core.Path.{_≡_}
+use native.Mathlib.Nat.{add-zero}
 use native.Mathlib.Omega.{arith}
 use borrow.Author.Needs.{needs}
 use denote.Ref.{now}
 use lib.ListN.{drop}
-use Rattle.join.specs.Given.{dispatchesIn}
-use Rattle.join.specs.Refusal.{dispatchesOut}
-use Rattle.join_calls.proofs.Tests.{found, passed, dispatches-out-next, dispatches-out-none}
+use lib.Seq.{getD-drop}
+use Rattle.list_check.specs.Lines.{any}
+use Rattle.edges.specs.Records.{dispatchStride}
+use Rattle.join.specs.Given.{dispatchIn, dispatchesIn}
+use Rattle.join.specs.Refusal.{dispatchOut}
+use Rattle.join_calls.proofs.Tests.{found, passed, ended}
 use Rattle.join_calls.proofs.refusals.dispatches_out.Statement.{statement}
 use Rattle.join_calls.proofs.refusals.dispatches_out.Tie as tie
 
 abbrev Inv-loop : tie.InvT-loop
-Inv-loop list lines dispatches number i₀ i = (i ≤ number) × (dispatchesOut list lines (dispatchesIn (number - i) (drop (i * 2) dispatches)) ≡ dispatchesOut list lines (dispatchesIn number dispatches))
+Inv-loop list lines dispatches number i₀ i = (i ≤ number) × (any (dispatchOut list lines) (dispatchesIn (number - i) (drop (i * 2) dispatches)) ≡ any (dispatchOut list lines) (dispatchesIn number dispatches))
 
 abbrev μ-loop : tie.MeasureT-loop
 μ-loop list lines dispatches number i₀ i = number - i
@@ -25,20 +29,20 @@ returns c =
     let b = c .before in
     let at = b .before .before .before .before in
     let a = at .before .before .before .args in
-    found _ (at .loop .inv .1) (b .dispatch-out .ensures) (dispatches-out-next _ _ (a .number) (at .loop .i) (now (a .dispatches)) (omega arith)) (c .if1 .taken)
+    found dispatchStride dispatchIn (dispatchOut (now (a .list)) (a .lines)) (a .number) (at .loop .i) (now (a .dispatches)) (at .loop .inv .1) (omega arith) (rw (getD-drop (at .loop .i * 2) (now (a .dispatches)) 0 0, add-zero, getD-drop (at .loop .i * 2) (now (a .dispatches)) 1 0) (b .dispatch-out .ensures)) (c .if1 .taken)
 
 loop-again : tie.Need-loop-again Inv-loop μ-loop
 loop-again c =
     let b = c .before in
     let at = b .before .before .before .before in
     let a = at .before .before .before .args in
-    (omega arith, passed _ (at .loop .inv .1) (b .dispatch-out .ensures) (dispatches-out-next _ _ (a .number) (at .loop .i) (now (a .dispatches)) (omega arith)) (c .if1 .left))
+    (omega arith, passed dispatchStride dispatchIn (dispatchOut (now (a .list)) (a .lines)) (a .number) (at .loop .i) (now (a .dispatches)) (at .loop .inv .1) (omega arith) (rw (getD-drop (at .loop .i * 2) (now (a .dispatches)) 0 0, add-zero, getD-drop (at .loop .i * 2) (now (a .dispatches)) 1 0) (b .dispatch-out .ensures)) (c .if1 .left))
 
 returns-2 : tie.Need-returns-2 Inv-loop μ-loop
 returns-2 c =
     let at = c .before in
     let a = at .before .before .before .args in
-    sym (dispatches-out-none _ _ (a .number) (at .loop .i) (drop (at .loop .i * 2) (now (a .dispatches))) (omega arith)) ∙ at .loop .inv .1
+    ended dispatchStride dispatchIn (dispatchOut (now (a .list)) (a .lines)) (a .number) (at .loop .i) (now (a .dispatches)) (at .loop .inv .1) (omega arith)
 
 pub dispatches-out-spec : {M : Type 1} → statement M
 dispatches-out-spec =

@@ -1,18 +1,21 @@
 -- What is left of the edges gives what all do. Assumes nothing.
 use Prim.Native.Nat.{_*_, _-_, _≤_}
-use mathlib.Core.Path.{_≡_, sym, _∙_}
+use mathlib.Core.Path.{_≡_}
 use native.Mathlib.Omega.{arith}
 use borrow.Author.Needs.{needs}
 use denote.Ref.{now}
 use lib.ListN.{drop}
-use Rattle.join.specs.Given.{edgesIn}
-use Rattle.join.specs.Refusal.{edgesOut}
-use Rattle.join_calls.proofs.Tests.{found, passed, edges-out-next, edges-out-none}
+use lib.Seq.{getD-drop}
+use Rattle.list_check.specs.Lines.{any}
+use Rattle.edges.specs.Edges.{edgeStride}
+use Rattle.join.specs.Given.{edgeIn, edgesIn}
+use Rattle.join.specs.Refusal.{edgeOut}
+use Rattle.join_calls.proofs.Tests.{found, passed, ended}
 use Rattle.join_calls.proofs.refusals.edges_out.Statement.{statement}
 use Rattle.join_calls.proofs.refusals.edges_out.Tie as tie
 
 abbrev Inv-loop : tie.InvT-loop
-Inv-loop list lines edges number i₀ i = (i ≤ number) × (edgesOut list lines (edgesIn (number - i) (drop (i * 4) edges)) ≡ edgesOut list lines (edgesIn number edges))
+Inv-loop list lines edges number i₀ i = (i ≤ number) × (any (edgeOut list lines) (edgesIn (number - i) (drop (i * 4) edges)) ≡ any (edgeOut list lines) (edgesIn number edges))
 
 abbrev μ-loop : tie.MeasureT-loop
 μ-loop list lines edges number i₀ i = number - i
@@ -25,20 +28,20 @@ returns c =
     let b = c .before in
     let at = b .before .before .before .before in
     let a = at .before .before .before .args in
-    found _ (at .loop .inv .1) (b .edge-out .ensures) (edges-out-next _ _ (a .number) (at .loop .i) (now (a .edges)) (omega arith)) (c .if1 .taken)
+    found edgeStride edgeIn (edgeOut (now (a .list)) (a .lines)) (a .number) (at .loop .i) (now (a .edges)) (at .loop .inv .1) (omega arith) (rw (getD-drop (at .loop .i * 4) (now (a .edges)) 2 0, getD-drop (at .loop .i * 4) (now (a .edges)) 3 0) (b .edge-out .ensures)) (c .if1 .taken)
 
 loop-again : tie.Need-loop-again Inv-loop μ-loop
 loop-again c =
     let b = c .before in
     let at = b .before .before .before .before in
     let a = at .before .before .before .args in
-    (omega arith, passed _ (at .loop .inv .1) (b .edge-out .ensures) (edges-out-next _ _ (a .number) (at .loop .i) (now (a .edges)) (omega arith)) (c .if1 .left))
+    (omega arith, passed edgeStride edgeIn (edgeOut (now (a .list)) (a .lines)) (a .number) (at .loop .i) (now (a .edges)) (at .loop .inv .1) (omega arith) (rw (getD-drop (at .loop .i * 4) (now (a .edges)) 2 0, getD-drop (at .loop .i * 4) (now (a .edges)) 3 0) (b .edge-out .ensures)) (c .if1 .left))
 
 returns-2 : tie.Need-returns-2 Inv-loop μ-loop
 returns-2 c =
     let at = c .before in
     let a = at .before .before .before .args in
-    sym (edges-out-none _ _ (a .number) (at .loop .i) (drop (at .loop .i * 4) (now (a .edges))) (omega arith)) ∙ at .loop .inv .1
+    ended edgeStride edgeIn (edgeOut (now (a .list)) (a .lines)) (a .number) (at .loop .i) (now (a .edges)) (at .loop .inv .1) (omega arith)
 
 pub edges-out-spec : {M : Type 1} → statement M
 edges-out-spec =

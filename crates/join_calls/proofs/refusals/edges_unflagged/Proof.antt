@@ -1,19 +1,22 @@
 -- What is left of the edges gives what all do. Assumes nothing.
 use Prim.Native.Nat.{_*_, _-_, _≤_}
-use mathlib.Core.Path.{_≡_, sym, _∙_}
+use mathlib.Core.Path.{_≡_}
 use native.Mathlib.Omega.{arith}
 use borrow.Author.Needs.{needs}
 use denote.Ref.{now}
 use lib.ListN.{drop}
-use Rattle.join.specs.Given.{edgesIn, flagFor}
-use Rattle.join.specs.Refusal.{edgesUnflagged}
-use Rattle.join_calls.proofs.Tests.{found, passed, unflagged-next, unflagged-none}
+use lib.Seq.{getD-drop}
+use Rattle.list_check.specs.Lines.{any}
+use Rattle.edges.specs.Edges.{edgeStride}
+use Rattle.join.specs.Given.{edgeIn, edgesIn, flagsIn, flagFor}
+use Rattle.join.specs.Refusal.{unflagged}
+use Rattle.join_calls.proofs.Tests.{found, passed, ended}
 use Rattle.join_calls.proofs.refusals.edges_unflagged.Statement.{statement}
 use Rattle.join_calls.proofs.refusals.edges_unflagged.Tie as tie
 
 abbrev Inv-loop : tie.InvT-loop
 Inv-loop list lines edges number flags count i₀ i =
-    (i ≤ number) × (edgesUnflagged list lines (flagFor count flags) (edgesIn (number - i) (drop (i * 4) edges)) ≡ edgesUnflagged list lines (flagFor count flags) (edgesIn number edges))
+    (i ≤ number) × (any (unflagged list lines (flagFor (flagsIn count flags))) (edgesIn (number - i) (drop (i * 4) edges)) ≡ any (unflagged list lines (flagFor (flagsIn count flags))) (edgesIn number edges))
 
 abbrev μ-loop : tie.MeasureT-loop
 μ-loop list lines edges number flags count i₀ i = number - i
@@ -27,7 +30,7 @@ returns c =
     let f = b .before in
     let at = f .before .before .before in
     let a = at .before .before .before .before .args in
-    found _ (at .loop .inv .1) (rw (f .find-flag .ensures) at (b .bit-out .ensures)) (unflagged-next _ _ _ (a .number) (at .loop .i) (now (a .edges)) (omega arith)) (c .if1 .taken)
+    found edgeStride edgeIn (unflagged (now (a .list)) (a .lines) (flagFor (flagsIn (a .count) (now (a .flags))))) (a .number) (at .loop .i) (now (a .edges)) (at .loop .inv .1) (omega arith) (rw (getD-drop (at .loop .i * 4) (now (a .edges)) 1 0) (rw (f .find-flag .ensures) at (b .bit-out .ensures))) (c .if1 .taken)
 
 loop-again : tie.Need-loop-again Inv-loop μ-loop
 loop-again c =
@@ -35,13 +38,13 @@ loop-again c =
     let f = b .before in
     let at = f .before .before .before in
     let a = at .before .before .before .before .args in
-    (omega arith, passed _ (at .loop .inv .1) (rw (f .find-flag .ensures) at (b .bit-out .ensures)) (unflagged-next _ _ _ (a .number) (at .loop .i) (now (a .edges)) (omega arith)) (c .if1 .left))
+    (omega arith, passed edgeStride edgeIn (unflagged (now (a .list)) (a .lines) (flagFor (flagsIn (a .count) (now (a .flags))))) (a .number) (at .loop .i) (now (a .edges)) (at .loop .inv .1) (omega arith) (rw (getD-drop (at .loop .i * 4) (now (a .edges)) 1 0) (rw (f .find-flag .ensures) at (b .bit-out .ensures))) (c .if1 .left))
 
 returns-2 : tie.Need-returns-2 Inv-loop μ-loop
 returns-2 c =
     let at = c .before in
     let a = at .before .before .before .before .args in
-    sym (unflagged-none _ _ _ (a .number) (at .loop .i) (drop (at .loop .i * 4) (now (a .edges))) (omega arith)) ∙ at .loop .inv .1
+    ended edgeStride edgeIn (unflagged (now (a .list)) (a .lines) (flagFor (flagsIn (a .count) (now (a .flags))))) (a .number) (at .loop .i) (now (a .edges)) (at .loop .inv .1) (omega arith)
 
 pub edges-unflagged-spec : {M : Type 1} → statement M
 edges-unflagged-spec =

@@ -7,16 +7,17 @@ use borrow.Author.Needs.{needs}
 use denote.Ref.{now}
 use lib.Dec.{eqb}
 use lib.ListN.{drop}
-use Rattle.join.specs.Given.{edgesIn, flagFor}
+use Rattle.edges.specs.Edges.{edgeStride}
+use Rattle.join.specs.Given.{edgeIn, edgesIn, flagsIn, flagFor}
 use Rattle.join_calls.specs.Room.{exceeding}
-use Rattle.join_calls.proofs.Steps.{edges-none}
+use Rattle.edges.proofs.Records.{records-none}
 use Rattle.join_calls.proofs.Exceeding.{exceeding-on, exceeding-none}
 use Rattle.join_calls.proofs.room.room_exceeded.Statement.{statement}
 use Rattle.join_calls.proofs.room.room_exceeded.Tie as tie
 
 abbrev Inv-loop : tie.InvT-loop
 Inv-loop edges number flags count dispatches zero left₀ i₀ left i =
-    let f : ℕ → Bool = λ a. eqb (flagFor count flags a) (zero .0) in
+    let f : ℕ → Bool = λ a. eqb (flagFor (flagsIn count flags) a) (zero .0) in
     (i ≤ number) × (exceeding f left (edgesIn (number - i) (drop (i * 4) edges)) dispatches ≡ exceeding f left₀ (edgesIn number edges) dispatches)
 
 abbrev μ-loop : tie.MeasureT-loop
@@ -54,7 +55,7 @@ returns-2 c =
     let a = at .before .before .before .args in
     rw (d .dispatch-lines .ensures)
     (sym (exceeding-none _ _ _)
-    ∙ rw (edges-none (a .number) (at .loop .i) (drop (at .loop .i * 4) (now (a .edges))) (omega arith)) at (at .loop .inv .1))
+    ∙ rw (records-none edgeStride edgeIn (a .number) (at .loop .i) (drop (at .loop .i * 4) (now (a .edges))) (omega arith)) at (at .loop .inv .1))
 
 pub room-exceeded-spec : {M : Type 1} → statement M
 room-exceeded-spec =
