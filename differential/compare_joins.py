@@ -11,7 +11,8 @@ Builds the oracle (README.md) from FOLDER (default as build.sh's: ../shared/docs
   next identifier. tools/join_reading.py, a reading of R-1 of its own, must give the same, and on random values the flow must be 1 exactly where
   R-1 says (tools/join_values.py);
 - for the others the number of that reading; the Rust must panic where a source has no flag, a branch no condition or a dispatch is of x0;
-- the counts, and numbers for the whole of the storage: a call writes after what is in use, and a refused one nowhere.
+- the counts, and numbers for the whole of the storage: a call writes after what is in use, and a refused one nowhere, but for the words of its
+  edges, which any call leaves in front of the words that it may use. Here all of these are lent.
 
 tools/join_reading.py can take PROGRAM's place. Prints counts by origin and by refusal. The last line is 'no difference', or how many there are,
 one for each seed that differs, after the first 10 of them; their commands are kept in target/differences here. Exit status: 0 no difference,

@@ -43,6 +43,7 @@ ALTERED = [
     ("a byte of our area", r"(left \d+) (\d)", r"\1 1\2"),
     ("a word of the sequentials", r"(left \d+ \d+) (\d)", r"\1 1\2"),
     ("a role", r"(left \d+ \d+ \d+) (\d)", r"\1 1\2"),
+    ("a word of the edges' own", r"(left \d+ \d+ \d+ \d+) (\d)", r"\1 1\2"),
     ("a line missing", r"\n\d+ 16 1 [^\n]*", r""),
     ("no last newline", r"\n\Z", r""),
     ("nothing", r"(?s).*", r""),
@@ -120,7 +121,7 @@ def limit_tests(folder, kept):
         call = calls.desk.call(calls.given(flow, edges=edge))
         long = call.records + call.records[-1:] * (1_048_600 - len(call.records))
         call = dataclasses.replace(call, lines=lines, records=long, list_words=4 * len(long))
-        got, _ = join_reading.answer(call)
+        got, *_ = join_reading.answer(call)
         yield f"{lines} lines from {flow}", got == number, got
 
 

@@ -4,14 +4,15 @@
     tools/join_cases.py stdin      crates/join_cases/stdin: a command to a line
     tools/join_cases.py stdout     crates/join_cases/stdout: what each call leaves, or its refusal
     tools/join_cases.py check      makes both anew and compares them with the stored ones: exit status 1 where they differ
-    tools/join_cases.py variants   how many of the stored joins each wrong reading of R-1 (join_variants.py) answers in another way: exit
-                                   status 1 where one is not found
+    tools/join_cases.py variants   how many of the stored joins each wrong reading (join_variants.py) answers in another way: exit status 1
+                                   where one is not found
 
 What an accepted join appends is read off the text that the unchanged Rust's five functions print (differential/target/oracle --join, which
 differential/build.sh makes), by join_rust.py; join_reading.py, a reading of R-1 of its own, must give the same. The Rust has no refusals:
-their numbers are the reading's, and are written beside each case here too. The new flow of every accepted join is evaluated on random values
-(join_values.py). join_lists.py says what the lists are, join_desk.py what the program writes. Nothing here is shared with the project's
-definitions and code; the layout of the records and the numbers of kinds and origins are the crates'.
+their numbers are the reading's, and are written beside each case here too. Nor has it the words that a call may use for its edges: what a call
+leaves in them is the reading's. The new flow of every accepted join is evaluated on random values (join_values.py). join_lists.py says what
+the lists are, join_desk.py what the program writes. Nothing here is shared with the project's definitions and code; the layout of the records
+and the numbers of kinds and origins are the crates'.
 """
 import collections
 import itertools
@@ -23,7 +24,7 @@ import join_variants
 import lowering_cases
 from join_desk import DISPATCHES, EDGES, FLAGS, Desk
 from join_lists import ADDRESSES
-from join_reading import BRANCH, MOST_LINES, MOST_NID, RECORD, REGULAR, SYSCALL
+from join_reading import BRANCH, EDGE, MOST_LINES, MOST_NID, RECORD, REGULAR, SYSCALL
 from lowering_cases import TOP
 from start_cases import ROLE_SORTS
 
@@ -459,10 +460,72 @@ def several_faults(c):
     c.reset()
 
 
+#
+# The words that a call may use
+#
+
+
+def other_edges(c, count):
+    """Edges of all origins, whose words no call before had: where they lead to is counted up."""
+    kinds = [regular, branch, syscall]
+    first = len(c.made) * join_lists.AREA_WORDS
+    return [kinds[n % 3](ADDRESSES[n % 6], c.lines.at["ult"], to=first + n) for n in range(count)]
+
+
+def words_at_their_limit(c):
+    """9 with fewer than four words an edge, which stay as they were; with just as many, or some more, accepted."""
+    for count in (1, 2, 7, 16):
+        for words in sorted({0, EDGE * (count - 1), EDGE * count - 1}):
+            c.lend_scratch(words)
+            c.refused(9, edges=other_edges(c, count))
+        for words in (EDGE * count, EDGE * count + 3):
+            c.lend_scratch(words)
+            c.accepted(edges=other_edges(c, count))
+            c.reset()
+    for words in (0, 3):  # none are needed where no edge is in use
+        c.lend_scratch(words)
+        c.accepted()
+        c.accepted(dispatches=[(1, c.lines.at["address"])])
+        c.accepted(edges=other_edges(c, 2), counts={EDGES: 0})
+        c.reset()
+
+
+def words_of_the_edges_in_use(c):
+    """Of the records that are lent, those in use count; more than there are, or than any storage holds, are 9 with any words."""
+    for used, words in ((1, EDGE), (2, 2 * EDGE), (2, 3 * EDGE), (3, 3 * EDGE)):
+        c.lend_scratch(words)
+        c.accepted(edges=other_edges(c, 3), counts={EDGES: used})
+        c.lend_scratch(EDGE * used - 1)
+        c.refused(9, edges=other_edges(c, 3), counts={EDGES: used})
+    c.lend_scratch()
+    for used in (4, 2**62, 2**62 + 1, TOP):
+        c.refused(9, edges=other_edges(c, 3), counts={EDGES: used})
+    c.refused(9, edges=other_edges(c, 3), words={EDGES: 3 * EDGE - 1}, counts={EDGES: 3})
+    c.reset()
+
+
+def words_of_refused_joins(c):
+    """A call that is refused for anything else leaves its edges' words; with too few words it is 9 and leaves none."""
+    for number, fault in faults(c):
+        for count in (2, 3):
+            given = dict(edges=other_edges(c, count))
+            fault(given)
+            c.refused(number, **given)
+            c.lend_scratch(EDGE * count - 1)
+            c.refused(9, **given | dict(edges=other_edges(c, count)))
+            c.role(78, c.lines.roles[78])
+            c.reset()
+    c.refused(15, edges=[*other_edges(c, 1), regular(8)])  # a source without a flag, an unknown origin and a branch without a Bit
+    c.refused(16, edges=[*other_edges(c, 1), (TOP, 10, TOP, TOP)])
+    c.refused(16, edges=[branch(10, TOP), *other_edges(c, 2)])
+    c.reset()
+
+
 LINES = [single_joins, orders, equal_sources, registers, chains]
 ACCEPTED = [*LINES, empty_joins, zero_bit_on_the_way, first_flags, addresses, many, address_nodes, every_bit, unread, other_roles]
 REFUSED = [counts_at_their_limits, flags_in_turn, sources_without_a_flag, more_or_fewer_dynamic_flags, records_in_turn, room, several_faults]
-ON_LISTING, ON_APART = ACCEPTED + REFUSED, LINES + [roles_in_turn]
+WORDS = [words_at_their_limit, words_of_the_edges_in_use, words_of_refused_joins]
+ON_LISTING, ON_APART = ACCEPTED + REFUSED, LINES + [roles_in_turn] + WORDS
 
 
 def commands(counts=None, tried=lambda join, right: None):

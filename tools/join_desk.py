@@ -1,17 +1,19 @@
 """The storage of the program crates/join_cases, and what its commands do to it: crates/join_cases/src/main.rt says what they are.
 
 A `Desk` answers a command as the program must, in its lines of text. What a call gives is not decided here but by the function that the desk
-is made with: it takes a `Join` and gives the refusal, and what an accepted call leaves. The desk puts that where the contract of a call has
-it: after what is in use, and nowhere else. So what it shows of the whole storage after each call is what an accepted call may write and what
-a refused one must leave alone. The layout of the records is the crates'.
+is made with: it takes a `Join` and gives the refusal, what an accepted call leaves, and the words that it puts of its edges. The desk puts
+that where the contract of a call has it: after what is in use, the edges' words in front of those that a call may use, and nowhere else. So
+what it shows of the whole storage after each call is what an accepted call may write and what a refused one must leave alone. The layout of
+the records is the crates'.
 """
 from join_reading import RECORD, Join
 from start_cases import KIND, ROLE_SORTS
 
-JOIN, LINE, COUNTS, ROLE, EDGES, DISPATCHES, FLAGS, DYNAMICS, KERNEL, LENT = range(1, 11)  # the commands
+JOIN, LINE, COUNTS, ROLE, EDGES, DISPATCHES, FLAGS, DYNAMICS, KERNEL, LENT, SCRATCH = range(1, 12)  # the commands
 AREAS = (EDGES, DISPATCHES, FLAGS, DYNAMICS)
 LIST_WORDS, NAME_BYTES, SEQUENTIALS, AREA_WORDS = 3200, 2048, 64, 64
-BEFORE = 46  # every word and byte of the list, our area and the sequentials, so that a 0 which a call puts anywhere shows
+SCRATCH_WORDS = 68  # those that a call may use
+BEFORE = 46  # every word and byte of them, the list, our area and the sequentials, so that a 0 which a call puts anywhere shows
 NAMED = {KIND["State"], KIND["Input"], KIND["Bad"]}
 
 
@@ -53,11 +55,13 @@ class Desk:
         self.records = [record_of([BEFORE] * RECORD)] * (LIST_WORDS // RECORD)
         self.names = Digested([BEFORE] * NAME_BYTES)
         self.sequentials = Digested([BEFORE] * SEQUENTIALS)
+        self.scratch = Digested([BEFORE] * SCRATCH_WORDS)
         self.roles = Digested([0] * len(ROLE_SORTS))
         self.counts = [0] * 6  # lines, next identifier, names, edges, dispatches, bads
         self.given = {area: (0, []) for area in AREAS}
         self.kernel = [0, 0]
         self.lent = [0, 0, 0]
+        self.scratch_lent = SCRATCH_WORDS
         self.listed = 0
 
     def put_line(self, place, record):
@@ -84,6 +88,9 @@ class Desk:
             self.kernel = numbers
         elif which == LENT:
             *self.lent, self.listed = numbers
+        elif which == SCRATCH:
+            (self.scratch_lent,) = numbers
+            assert self.scratch_lent <= SCRATCH_WORDS
         else:
             raise ValueError(f"no command: {command}")
         return []
@@ -94,12 +101,13 @@ class Desk:
         lines, nid, names, *_ = self.counts
         edges, dispatches, flags, dynamics = (self.given[area] for area in AREAS)
         return Join(
-            self.records, list_words, name_bytes, sequential_words, lines, nid, names, self.listed, self.roles.numbers, edges[1], edges[0],
-            dispatches[1], dispatches[0], flags[1], flags[0], dynamics[1], *self.kernel, flow,
+            self.records, list_words, name_bytes, sequential_words, self.scratch_lent, lines, nid, names, self.listed, self.roles.numbers,
+            edges[1], edges[0], dispatches[1], dispatches[0], flags[1], flags[0], dynamics[1], *self.kernel, flow,
         )  # fmt: skip
 
     def join(self, flow):
-        number, joined = self.decide(self.call(flow))
+        number, joined, words = self.decide(self.call(flow))
+        self.scratch.put(0, words)
         return [f"refusal {number}", *([] if number else self.accept(joined)), self.in_use(), self.left()]
 
     def accept(self, joined):
@@ -126,7 +134,7 @@ class Desk:
         return texts("counts", [*self.counts, self.listed])
 
     def left(self):
-        return texts("left", [part.digest for part in (self.list, self.names, self.sequentials, self.roles)])
+        return texts("left", [part.digest for part in (self.list, self.names, self.sequentials, self.roles, self.scratch)])
 
 
 def texts(title, numbers):

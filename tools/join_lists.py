@@ -5,8 +5,8 @@ lines that it may not. States with an init stand among them, so that identifiers
 """
 import lowering_cases
 import start_cases
-from join_desk import AREA_WORDS, AREAS, LIST_WORDS, NAME_BYTES, SEQUENTIALS, Desk
-from join_desk import COUNTS, DISPATCHES, DYNAMICS, EDGES, FLAGS, JOIN, KERNEL, LENT, LINE, ROLE
+from join_desk import AREA_WORDS, AREAS, LIST_WORDS, NAME_BYTES, SCRATCH_WORDS, SEQUENTIALS, Desk
+from join_desk import COUNTS, DISPATCHES, DYNAMICS, EDGES, FLAGS, JOIN, KERNEL, LENT, LINE, ROLE, SCRATCH
 from join_reading import DISPATCH, DYNAMIC_FLAGS, EDGE, FLAG, RECORD, Reading
 from start_cases import BIT, KIND, MEMORY, WORD
 
@@ -110,6 +110,7 @@ class Calls:
         """The list without the lines of joins."""
         self.tally(lines=len(self.lines.records), nid=self.lines.next, names=0)
         self.set(LENT, [*self.desk.lent, self.desk.listed], [*ALL, 0])
+        self.lend_scratch()
 
     def tally(self, lines=None, nid=None, names=None, others=(0, 0, 0)):
         """Sets counts of the state; those that are not given stay."""
@@ -127,6 +128,10 @@ class Calls:
         """Lends so much of each, and all where nothing is said; `listed` sequentials are then in use, or as many as were."""
         lent = [all_of if n is None else n for n, all_of in zip((list_words, name_bytes, sequential_words), ALL)]
         self.set(LENT, [*self.desk.lent, self.desk.listed], [*lent, self.desk.listed if listed is None else listed])
+
+    def lend_scratch(self, words=SCRATCH_WORDS):
+        """Lends so many of the words that a call may use."""
+        self.set(SCRATCH, [self.desk.scratch_lent], [words])
 
     def give(self, area, records, count=None, words=None):
         """Hands over records; `count` of them are in use, and `words` words lent where that is not all of them."""

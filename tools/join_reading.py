@@ -5,9 +5,10 @@
                                                     VARIANT is the name of a wrong one (join_variants.py)
 
 `Join` is all that one call is lent and given, with the state before it; `Reading` answers it: `refusal` gives the first of 9, 13, 15, 16 and
-8 that applies, or 0, and `joined` what an accepted call appends. A record is ten numbers: identifier, kind, sort, three operands, constant,
-area, place and length of a name, as crates/lowering_cases/stdout has them. Which lines have a value, and of what sort, and the sorts of
-the roles, are start_cases.py's reading of document 01.
+8 that applies, or 0, `joined` what an accepted call appends, and `put_words` what any call leaves of its edges in the words that it may use.
+Document 02 has no such words: four an edge are the project's own (docs/DECISIONS.md), and fewer are 9. A record is ten numbers: identifier,
+kind, sort, three operands, constant, area, place and length of a name, as crates/lowering_cases/stdout has them. Which lines have a value, and
+of what sort, and the sorts of the roles, are start_cases.py's reading of document 01.
 """
 import dataclasses
 import functools
@@ -32,13 +33,14 @@ def value_sort(kind, sort):
 
 @dataclasses.dataclass
 class Join:
-    """One call. `records` are the list's records, `list_words` the words that are lent of it; edges, dispatches, flags and dynamics are the
-    words that are lent, beside them how many records are in use."""
+    """One call. `records` are the list's records, `list_words` the words that are lent of it, `scratch_words` those that the call may use;
+    edges, dispatches, flags and dynamics are the words that are lent, beside them how many records are in use."""
 
     records: list
     list_words: int
     name_bytes: int
     sequential_words: int
+    scratch_words: int
     lines: int
     nid: int
     names: int
@@ -112,10 +114,15 @@ class Reading:
             or j.lines > j.list_words // RECORD
             or j.names > j.name_bytes
             or j.sequentials > j.sequential_words
-            or j.edge_count > len(j.edges) // EDGE
+            or self.edges_over()
             or j.dispatch_count > len(j.dispatches) // DISPATCH
             or j.flag_count > len(j.flags) // FLAG
         )
+
+    def edges_over(self):
+        """More edges than there are records, or than the words that the call may use hold."""
+        j = self.join
+        return j.edge_count > len(j.edges) // EDGE or j.edge_count > j.scratch_words // EDGE
 
     def roles_out(self):
         return any(self.join.sort_at(place) != sort for place, sort in zip(self.join.roles, ROLE_SORTS))
@@ -160,6 +167,15 @@ class Reading:
             or j.names + len(appended.names) > j.name_bytes
             or j.sequentials + len(appended.sequentials) > j.sequential_words
         )
+
+    #
+    # Words of the edges
+    #
+
+    def put_words(self):
+        """Those of all edges in use, whatever else the call is refused for."""
+        j = self.join
+        return [] if self.edges_over() else j.edges[: EDGE * j.edge_count]
 
     #
     # Lines: edges first, then dispatches, each in the order given
@@ -230,10 +246,10 @@ class Reading:
 
 
 def answer(join, reading=Reading):
-    """The refusal and None, or 0 and what the call leaves."""
+    """The refusal, 0 for none; what an accepted call leaves, None for a refused one; and the words that the call puts."""
     read = reading(join)
     number = read.refusal()
-    return (number, None) if number else (0, read.joined())
+    return number, None if number else read.joined(), read.put_words()
 
 
 def main():

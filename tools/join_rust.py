@@ -2,7 +2,8 @@
 
 `Rust` keeps one oracle at work. It hands it the lines of a call's list that it hasn't got, with the roles, the table of flags and the nodes,
 asks for the join and turns the text that the Rust prints back into records, names, sequentials and places. `Judge` decides calls: the number
-is join_reading.py's, since the Rust has none, and what an accepted call leaves is the Rust's, with which the reading must agree.
+is join_reading.py's, since the Rust has none, as are the words that it puts of its edges; what an accepted call leaves is the Rust's, with
+which the reading must agree.
 """
 import subprocess
 
@@ -102,7 +103,7 @@ class Judge:
         self.rust, self.counts, self.tried = rust, counts, tried
 
     def __call__(self, join):
-        number, expected = join_reading.answer(join)
+        number, expected, words = join_reading.answer(join)
         self.counts["joins"] += 1
         self.counts["refused" if number else "accepted", number] += 1
         made = None
@@ -116,8 +117,8 @@ class Judge:
             wrong = join_values.difference(join, made, self.counts, seed=self.counts["joins"])
             if wrong:
                 raise Disagree(wrong)
-        self.tried(join, (number, made))
-        return number, made
+        self.tried(join, (number, made, words))
+        return number, made, words
 
     def count(self, join, made):
         for _, origin, _ in join.given_edges():

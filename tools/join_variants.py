@@ -1,11 +1,12 @@
-"""Wrong readings of R-1, each wrong in one place. The stored joins (tools/join_cases.py variants) must tell each of them from the right one, and
-those of the lines must be found by the comparison with the Rust (differential/compare_joins_selftest.py)."""
+"""Wrong readings of R-1 and of the words that a call may use for its edges, each wrong in one place. The stored joins (tools/join_cases.py
+variants) must tell each of them from the right one, and those of the lines must be found by the comparison with the Rust
+(differential/compare_joins_selftest.py)."""
 import dataclasses
 
 from join_reading import BRANCH, DISPATCH, DYNAMIC_FLAGS, EDGE, FLAG, MOST_NID, OURS, RECORD, REGISTER_NODES, SYSCALL, Reading, answer
 from start_cases import BIT, KIND, ROLE_SORTS, WORD
 
-LINES, REFUSALS = {}, {}  # by name
+LINES, REFUSALS, WORDS = {}, {}, {}  # by name
 
 
 def lines(reading):
@@ -15,6 +16,11 @@ def lines(reading):
 
 def refusals(reading):
     REFUSALS[named(reading)] = reading
+    return reading
+
+
+def words(reading):
+    WORDS[named(reading)] = reading
     return reading
 
 
@@ -653,4 +659,86 @@ class room_of_a_record_begun(Reading):
         return changed(self, list_words=self.join.list_words + RECORD - 1).room_out()
 
 
-BY_NAME = {**LINES, **REFUSALS}
+#
+# Wrong words
+#
+
+
+@words
+class nine_without_the_words(Reading):
+    def edges_over(self):
+        return changed(self, scratch_words=EDGE * self.join.edge_count).edges_over()
+
+
+@words
+class words_that_are_full_are_out(Reading):
+    def edges_over(self):
+        j = self.join
+        return super().edges_over() or j.edge_count > 0 and j.edge_count == j.scratch_words // EDGE
+
+
+@words
+class words_for_an_edge_begun_are_enough(Reading):
+    def edges_over(self):
+        return changed(self, scratch_words=self.join.scratch_words + EDGE - 1).edges_over()
+
+
+@words
+class words_for_all_records(Reading):
+    def edges_over(self):
+        j = self.join
+        return super().edges_over() or len(j.edges) // EDGE > j.scratch_words // EDGE
+
+
+@words
+class no_words_are_too_few(Reading):
+    def edges_over(self):
+        return super().edges_over() or self.join.scratch_words == 0
+
+
+@words
+class words_of_the_records_that_fit(Reading):
+    def put_words(self):
+        j = self.join
+        return j.edges[: EDGE * min(j.edge_count, len(j.edges) // EDGE, j.scratch_words // EDGE)]
+
+
+@words
+class words_of_all_records(Reading):
+    def put_words(self):
+        j = self.join
+        return [] if self.edges_over() else j.edges[: EDGE * min(len(j.edges) // EDGE, j.scratch_words // EDGE)]
+
+
+@words
+class words_of_accepted_joins_alone(Reading):
+    def put_words(self):
+        return [] if self.refusal() else super().put_words()
+
+
+@words
+class words_of_joins_that_are_not_9(Reading):
+    def put_words(self):
+        return [] if self.counts_out() else super().put_words()
+
+
+@words
+class no_words(Reading):
+    def put_words(self):
+        return []
+
+
+@words
+class words_without_where_an_edge_leads_to(Reading):
+    def put_words(self):
+        return [0 if n % EDGE == 0 else word for n, word in enumerate(super().put_words())]
+
+
+@words
+class words_with_source_and_target_swapped(Reading):
+    def put_words(self):
+        put = super().put_words()
+        return [word for n in range(0, len(put), EDGE) for word in (put[n + 1], put[n], *put[n + 2 : n + EDGE])]
+
+
+BY_NAME = {**LINES, **REFUSALS, **WORDS}

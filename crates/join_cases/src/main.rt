@@ -1,18 +1,21 @@
-// Joins edges and dispatches that standard input describes into flows, and writes all that each call leaves. A command a line:
+// Joins edges and dispatches that standard input describes into flows, with the edges in a slice of records, and writes all that each call
+// leaves. A command a line:
 //   1 FLOW                                              joins what the commands before gave; FLOW is a place
 //   2 PLACE NID KIND SORT OP1 OP2 OP3 IMM AREA AT LEN   puts a line
 //   3 LINES NID NAMES EDGES DISPATCHES BADS             sets the tally and the counts of the state
 //   4 ROLE PLACE                                        sets a role
-//   5 COUNT WORDS WORD..                                gives edges: these words are lent, and COUNT records are in use
-//   6 COUNT WORDS WORD..                                gives dispatches
+//   5 COUNT WORDS WORD..                                gives edges: the records that these words hold are lent, and COUNT are in use
+//   6 COUNT WORDS WORD..                                gives dispatches: these words are lent, and COUNT records are in use
 //   7 COUNT WORDS WORD..                                gives the table of flags
 //   8 COUNT WORDS WORD..                                gives the dynamic flags, whose COUNT is not used; one that is not there is no place
 //   9 MODE NOT                                          sets the kernel-mode and the kernel-not node
 //   10 LIST NAMES SEQUENTIALS COUNT                     lends so many words of the list, bytes of our area and words of the sequentials, of
 //                                                       which COUNT are in use
+//   11 WORDS                                            lends so many of the words that a call may use; before it all of them
 // What a command sets stays for those after it. Command 1 writes its refusal, 0 for none; of an accepted call the lines as the ten numbers of
 // their records, a State's name after it, the sequentials that it added and the new flow; then the tally, the counts and the sequentials in use,
-// and a number each for the whole list, our area, the sequentials and the roles, whatever of them is lent or in use.
+// and a number each for the whole list, our area, the sequentials, the roles and the words that a call may use, whatever of them is lent or in
+// use.
 // tools/join_cases.py made the commands and what is to be written.
 use btor2::NodeRef;
 use btor2_list::Found;
@@ -24,15 +27,17 @@ use case_state::Step;
 use case_state::read_counts;
 use case_state::read_role;
 use decimal_text::read_decimal;
+use edges::EDGE;
 use join::Asked;
 use join::JoinHeld;
 use join::Joined;
 use libc::STDIN_FILENO;
 use libc::STDOUT_FILENO;
+use lowering_entry::InEdge;
 use lowering_refusals::Counts;
 use lowering_refusals::State;
 use roles::ROLES;
-ghost use Prim.Native.Nat.{_≤_};
+ghost use Prim.Native.Nat.{_<_, _≤_};
 
 // What is given lies in one array, in an area for each kind of words.
 const EDGES: usize = 0;
@@ -45,19 +50,25 @@ const DYNAMICS: usize = 3;
 
 const AREAS: usize = 4;
 
-// The words of an area.
+// The words of an area, and the edges that they hold.
 const AREA: usize = 64;
+
+const RECORDS: usize = 16;
+
+// The words that a call may use: more than those of the edges, so that one which is put after them shows.
+const SCRATCH: usize = 68;
 
 // The dynamic flags of a call, and a place that no list reaches.
 const FLAGGED: usize = 31;
 
 const NO_PLACE: u64 = 0xffff_ffff_ffff_ffff;
 
-// How much a call is lent of the list, our name area and the sequentials.
+// How much a call is lent of the list, our name area, the sequentials and the words that it may use.
 struct Lent {
     list: usize,
     names: usize,
     sequentials: usize,
+    scratch: usize,
 }
 
 // The kernel-mode and the kernel-not node.
@@ -93,12 +104,14 @@ fn main() {
     let mut list = [46u64; 3200];
     let mut names = [46u8; 2048];
     let mut sequentials = [46u64; 64];
+    let mut scratch = [46u64; SCRATCH];
     let mut words = [0u64; 256];
     run(
         &buffer[..n],
         &mut list,
         &mut names,
         &mut sequentials,
+        &mut scratch,
         &mut words,
     );
 }
@@ -108,18 +121,27 @@ fn run(
     list: &mut [u64],
     names: &mut [u8],
     sequentials: &mut [u64],
+    scratch: &mut [u64],
     words: &mut [u64],
 ) {
     let mut desk = empty();
     let mut at = 0;
     while at < text.len() {
-        let went = run_line(text, at, list, names, sequentials, words, desk);
-        if went.next <= at {
-            return;
-        }
-        at = went.next;
+        let went = run_line(text, at, list, names, sequentials, scratch, words, desk);
+        at = next_start(at, went.next, text.len());
         desk = went.desk;
     }
+}
+
+// Where the command after one at `at` starts. One that does not go on is the last.
+fn next_start(at: usize, next: usize, end: usize) -> usize
+    requires { ⌜ at < end ⌝ }
+    ensures { λ r. ⌜ at < r ⌝ }
+{
+    if next <= at {
+        return end;
+    }
+    next
 }
 
 fn empty() -> Desk {
@@ -145,6 +167,7 @@ fn empty() -> Desk {
             list: 0,
             names: 0,
             sequentials: 0,
+            scratch: SCRATCH,
         },
         given: Given {
             counts: [0; AREAS],
@@ -160,6 +183,7 @@ fn run_line(
     list: &mut [u64],
     names: &mut [u8],
     sequentials: &mut [u64],
+    scratch: &mut [u64],
     words: &mut [u64],
     desk: Desk,
 ) -> Went {
@@ -167,7 +191,7 @@ fn run_line(
     let from = command.next;
     let which = command.value;
     if which == 1 {
-        return run_join(text, from, list, names, sequentials, words, desk);
+        return run_join(text, from, list, names, sequentials, scratch, words, desk);
     }
     if which == 2 {
         let next = run_put(text, from, list);
@@ -179,7 +203,10 @@ fn run_line(
     if which < 9 {
         return run_give(text, from, which, words, desk);
     }
-    run_nodes(text, from, which, desk)
+    if which < 11 {
+        return run_nodes(text, from, which, desk);
+    }
+    run_scratch(text, from, desk)
 }
 
 fn run_put(text: &[u8], at: usize, list: &mut [u64]) -> usize {
@@ -240,6 +267,7 @@ fn run_nodes(text: &[u8], at: usize, which: u64, desk: Desk) -> Went {
             next: second.next,
         };
     }
+    let lent = desk.lent;
     let third = read_decimal(text, second.next);
     let fourth = read_decimal(text, third.next);
     let after = with_lent(
@@ -248,6 +276,7 @@ fn run_nodes(text: &[u8], at: usize, which: u64, desk: Desk) -> Went {
             list: first.value as usize,
             names: second.value as usize,
             sequentials: third.value as usize,
+            scratch: lent.scratch,
         },
         fourth.value as usize,
     );
@@ -279,6 +308,27 @@ fn with_lent(desk: Desk, lent: Lent, sequentials: usize) -> Desk {
         nodes,
         lent,
         given,
+    }
+}
+
+// 11: how many of the words that a call may use are lent.
+fn run_scratch(text: &[u8], at: usize, desk: Desk) -> Went {
+    let words = read_decimal(text, at);
+    let lent = desk.lent;
+    let held = desk.held;
+    let after = with_lent(
+        desk,
+        Lent {
+            list: lent.list,
+            names: lent.names,
+            sequentials: lent.sequentials,
+            scratch: words.value as usize,
+        },
+        held.sequentials,
+    );
+    Went {
+        desk: after,
+        next: words.next,
     }
 }
 
@@ -360,10 +410,12 @@ fn with_given(desk: Desk, given: Given) -> Desk {
 }
 
 // The first words of an area, as many as are lent; none where it has not so many.
-fn part(words: &[u64], area: usize, lent: usize) -> &[u64] {
+fn part(words: &[u64], area: usize, given: Given) -> &[u64] {
     if AREAS <= area {
         return &words[0..0];
     }
+    let of = given.words;
+    let lent = of[area];
     if AREA < lent {
         return &words[0..0];
     }
@@ -373,6 +425,27 @@ fn part(words: &[u64], area: usize, lent: usize) -> &[u64] {
         return &words[0..0];
     }
     &words[a..e]
+}
+
+// The edges that these words hold. The records after them are not lent.
+fn in_edges(words: &[u64]) -> [InEdge; RECORDS] {
+    let mut records = [in_edge(words, 0); RECORDS];
+    for place in 1..RECORDS {
+        records[place] = in_edge(words, place);
+    }
+    records
+}
+
+fn in_edge(words: &[u64], place: usize) -> InEdge
+    requires { ⌜ place ≤ 16 ⌝ }
+{
+    let at = place * EDGE;
+    InEdge {
+        to: word_or_none(words, at),
+        from: word_or_none(words, at + 1),
+        origin: word_or_none(words, at + 2),
+        condition: NodeRef(word_or_none(words, at + 3) as usize),
+    }
 }
 
 // The dynamic flags among these words; where there are fewer, places that no list reaches.
@@ -401,20 +474,20 @@ fn run_join(
     list: &mut [u64],
     names: &mut [u8],
     sequentials: &mut [u64],
+    scratch: &mut [u64],
     words: &[u64],
     desk: Desk,
 ) -> Went {
     let flow = read_decimal(text, at);
-    let joined = join_with(
+    let held = join_shown(
         list,
         names,
         sequentials,
+        scratch,
         words,
         desk,
         NodeRef(flow.value as usize),
     );
-    show_joined(list, names, sequentials, desk, joined);
-    let held = joined.held;
     let after = with_held(desk, held);
     Went {
         desk: after,
@@ -422,11 +495,26 @@ fn run_join(
     }
 }
 
-// The call, with the first words and bytes of each list lent.
+fn join_shown(
+    list: &mut [u64],
+    names: &mut [u8],
+    sequentials: &mut [u64],
+    scratch: &mut [u64],
+    words: &[u64],
+    desk: Desk,
+    flow: NodeRef,
+) -> JoinHeld {
+    let joined = join_with(list, names, sequentials, scratch, words, desk, flow);
+    show_joined(list, names, sequentials, scratch, desk, joined);
+    joined.held
+}
+
+// The call, with the first words and bytes of each list lent, and as many records as the words of the edges hold.
 fn join_with(
     list: &mut [u64],
     names: &mut [u8],
     sequentials: &mut [u64],
+    scratch: &mut [u64],
     words: &[u64],
     desk: Desk,
     flow: NodeRef,
@@ -435,32 +523,72 @@ fn join_with(
     let l = at_most(lent.list, list.len());
     let n = at_most(lent.names, names.len());
     let s = at_most(lent.sequentials, sequentials.len());
+    let k = at_most(lent.scratch, scratch.len());
+    let given = desk.given;
+    let edges = part(words, EDGES, given);
+    let records = in_edges(edges);
+    let whole = at_most(edges.len() / EDGE, RECORDS);
+    let dynamics = dynamic_flags(part(words, DYNAMICS, given));
+    let asked = asked_of(desk, flow);
+    let held = desk.held;
+    join_records(
+        &mut list[..l],
+        &mut names[..n],
+        &mut sequentials[..s],
+        records,
+        whole,
+        &mut scratch[..k],
+        part(words, DISPATCHES, given),
+        part(words, FLAGS, given),
+        &dynamics,
+        asked,
+        held,
+    )
+}
+
+fn asked_of(desk: Desk, flow: NodeRef) -> Asked {
     let given = desk.given;
     let counts = given.counts;
-    let of = given.words;
-    let dynamics = dynamic_flags(part(words, DYNAMICS, of[DYNAMICS]));
     let nodes = desk.nodes;
     let mode = nodes.mode;
     let none = nodes.none;
-    let asked = Asked {
+    Asked {
         edges: counts[EDGES],
         dispatches: counts[DISPATCHES],
         flags: counts[FLAGS],
         mode,
         none,
         flow,
-    };
-    let held = desk.held;
-    join_calls::join(
-        &mut list[..l],
-        &mut names[..n],
-        &mut sequentials[..s],
-        part(words, EDGES, of[EDGES]),
-        part(words, DISPATCHES, of[DISPATCHES]),
-        part(words, FLAGS, of[FLAGS]),
-        &dynamics,
-        asked,
-        held,
+    }
+}
+
+// The entry, with the first `lent` records.
+fn join_records(
+    list: &mut [u64],
+    names: &mut [u8],
+    sequentials: &mut [u64],
+    records: [InEdge; RECORDS],
+    lent: usize,
+    scratch: &mut [u64],
+    dispatches: &[u64],
+    flags: &[u64],
+    dynamics: &[u64; FLAGGED],
+    a: Asked,
+    h: JoinHeld,
+) -> Joined
+    requires { ⌜ lent ≤ 16 ⌝ }
+{
+    join_entry::join(
+        list,
+        names,
+        sequentials,
+        &records[..lent],
+        scratch,
+        dispatches,
+        flags,
+        dynamics,
+        a,
+        h,
     )
 }
 
@@ -474,7 +602,14 @@ fn at_most(n: usize, most: usize) -> usize
 }
 
 // What a call changed: the desk before it says where it wrote.
-fn show_joined(list: &[u64], names: &[u8], sequentials: &[u64], desk: Desk, joined: Joined) {
+fn show_joined(
+    list: &[u64],
+    names: &[u8],
+    sequentials: &[u64],
+    scratch: &[u64],
+    desk: Desk,
+    joined: Joined,
+) {
     let before = desk.held;
     let state = before.state;
     let old = state.tally;
@@ -490,7 +625,7 @@ fn show_joined(list: &[u64], names: &[u8], sequentials: &[u64], desk: Desk, join
         show(joined.flow.0 as u64, b"\n");
     }
     show_counts(after, held.sequentials);
-    show_left(list, names, sequentials, after);
+    show_left(list, names, sequentials, after, scratch);
 }
 
 fn show_lines(list: &[u64], names: &[u8], from: usize, to: usize) {
@@ -507,16 +642,19 @@ fn show_lines(list: &[u64], names: &[u8], from: usize, to: usize) {
 }
 
 fn show_line(names: &[u8], line: Line) {
-    show(line.nid.0, b" ");
-    show(line.kind, b" ");
-    show(line.sort, b" ");
-    show(line.op1.0 as u64, b" ");
-    show(line.op2.0 as u64, b" ");
-    show(line.op3.0 as u64, b" ");
-    show(line.imm, b" ");
-    show(line.name.area, b" ");
-    show(line.name.at, b" ");
-    show(line.name.len, b"\n");
+    let numbers = [
+        line.nid.0,
+        line.kind,
+        line.sort,
+        line.op1.0 as u64,
+        line.op2.0 as u64,
+        line.op3.0 as u64,
+        line.imm,
+        line.name.area,
+        line.name.at,
+        line.name.len,
+    ];
+    show_numbers(&numbers);
     if line.kind == STATE {
         io::write_all(STDOUT_FILENO, btor2_name::name_bytes(b"", names, line.name));
         io::write_all(STDOUT_FILENO, b"\n");
@@ -540,24 +678,44 @@ fn show_listed(sequentials: &[u64], from: usize, to: usize) {
 fn show_counts(state: State, listed: usize) {
     let tally = state.tally;
     let counts = state.counts;
+    let numbers = [
+        tally.lines as u64,
+        tally.nid,
+        counts.names as u64,
+        counts.edges as u64,
+        counts.dispatches as u64,
+        counts.bads as u64,
+        listed as u64,
+    ];
     io::write_all(STDOUT_FILENO, b"counts ");
-    show(tally.lines as u64, b" ");
-    show(tally.nid, b" ");
-    show(counts.names as u64, b" ");
-    show(counts.edges as u64, b" ");
-    show(counts.dispatches as u64, b" ");
-    show(counts.bads as u64, b" ");
-    show(listed as u64, b"\n");
+    show_numbers(&numbers);
 }
 
 // A number for each area, which a change of any one word changes.
-fn show_left(list: &[u64], names: &[u8], sequentials: &[u64], state: State) {
+fn show_left(list: &[u64], names: &[u8], sequentials: &[u64], state: State, scratch: &[u64]) {
     let roles = state.roles;
+    let numbers = [
+        digest(list),
+        digest_bytes(names),
+        digest(sequentials),
+        digest_roles(roles),
+        digest(scratch),
+    ];
     io::write_all(STDOUT_FILENO, b"left ");
-    show(digest(list), b" ");
-    show(digest_bytes(names), b" ");
-    show(digest(sequentials), b" ");
-    show(digest_roles(roles), b"\n");
+    show_numbers(&numbers);
+}
+
+// Numbers on a line of their own.
+fn show_numbers(numbers: &[u64]) {
+    let mut at = 0;
+    while at < numbers.len() {
+        if 0 < at {
+            io::write_all(STDOUT_FILENO, b" ");
+        }
+        io::print_decimal(STDOUT_FILENO, numbers[at]);
+        at += 1;
+    }
+    io::write_all(STDOUT_FILENO, b"\n");
 }
 
 fn digest(words: &[u64]) -> u64 {
