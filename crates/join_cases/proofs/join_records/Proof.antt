@@ -51,9 +51,9 @@ use Rattle.join.proofs.JoinHeld as Hd
 use Rattle.join.proofs.JoinHeld.Laws as Hd′
 use Rattle.join.proofs.Joined as Jd
 use Rattle.join.proofs.Joined.Laws as Jd′
-use Rattle.lowering_entry.specs.declared.InEdge.{InEdge}
-use Rattle.lowering_entry.proofs.InEdge as T
-use Rattle.lowering_entry.proofs.InEdge.Laws as T′
+use Rattle.edges.specs.declared.InEdge.{InEdge}
+use Rattle.edges.proofs.InEdge as T
+use Rattle.edges.proofs.InEdge.Laws as T′
 use Rattle.join_entry.proofs.join as core
 use Rattle.join_entry.proofs.join.Symbol as core-def
 use Rattle.join_entry.proofs.join.Symbol.{name as #core}
