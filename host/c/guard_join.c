@@ -63,7 +63,7 @@ static size_t role_sort(size_t role) {
     return role == 4 || role == 5 || role == 70 || role == 71 ? MEMORY : WORD;
 }
 
-/* Lines of all sorts and of none behind the start's, in any number and order, since they need the start's alone. */
+/* Lines of all sorts and of none after the start's, in any number and order, since they need the start's alone. */
 static void more_lines(void) {
     static const struct { uint64_t kind, sort, init, a, b, c; size_t value; } some[] = {
         {CONST, BIT, 0, 1, 0, 0, BIT}, {CONST, WORD, 0, 65536, 0, 0, WORD}, {STATE_LINE, BIT, 1, 0, 0, 0, BIT},

@@ -277,7 +277,7 @@ static void test_wrong_lines(void) {
 
 enum { REGULAR = 0, BRANCH = 1, SYSCALL = 2 };
 
-/* What stands behind the start: the kernel nodes, the dynamic flags of x1 to x31, the flag of address 65536, and that address as a word. */
+/* What stands after the start: the kernel nodes, the dynamic flags of x1 to x31, the flag of address 65536, and that address as a word. */
 enum { MODE = START, NONE, DYNAMIC, PC_FLAG = DYNAMIC + LANTHANUMBAT_DYNAMICS, ADDRESS, READY };
 
 struct given {

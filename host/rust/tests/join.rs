@@ -4,7 +4,7 @@ mod common;
 use common::*;
 use lanthanumbat::{head, Join, Lent, Refusal, Sequentials, DISPATCH, DYNAMICS, EDGE, LINE};
 
-// What stands behind the listing's start: the kernel nodes, the dynamic flags of x1 to x31, a flag for each of four addresses, and the word that
+// What stands after the listing's start: the kernel nodes, the dynamic flags of x1 to x31, a flag for each of four addresses, and the word that
 // is the first of them. The identifier of a line is its place and FIRST.
 const MODE: usize = 39;
 const NONE: usize = 40;
@@ -91,7 +91,7 @@ impl Desk {
     }
 }
 
-// Puts a line behind those in use, under the next identifier.
+// Puts a line after those in use, under the next identifier.
 fn push(s: &mut Storage, line: [u64; LINE]) {
     let place = s.state[LINES_USED] as usize;
     s.list[place * LINE..(place + 1) * LINE].copy_from_slice(&line);
