@@ -18,7 +18,8 @@ use Rattle.btor2.specs.declared.NodeType.the-variants.{Bit, Word, Memory
 use Rattle.btor2.specs.Sort.{width, sameSort}
 use Rattle.btor2.specs.Op.{Bin, add, sub, mul, udiv, sdiv, urem, sll, srl, ult, Op, const, read, write, bin, uext, ite, eq, and, or, not, state, stateInit, next, input, bad, unknown, mapOp, carried, binSort}
 use Rattle.btor2.specs.Walk.{walk}
-use Rattle.btor2.specs.SortRule.{hasSort, is, bitOrWord, rule, Judged, judge, noLine, judged, allRight, meetsSortRule, lineIs}
+use Rattle.btor2.specs.SortRule.{hasSort, is, bitOrWord, rule, Judged, judge, noLine, judged, allRight, meetsSortRule}
+use Rattle.btor2.proofs.LineIs.{lineIs}
 use Rattle.btor2.specs.Value.{Value, number, array, store, binary, Env, ofSort, evalOp, values, value}
 use Rattle.btor2.proofs.Sort.{same-sort, width-small}
 use Rattle.btor2.proofs.SortRule.{both, right-next, mark-line}

@@ -9,7 +9,8 @@ use lib.ListN.{length, getD, List·getD-append}
 use Rattle.btor2.specs.declared.NodeType.{NodeType}
 use Rattle.btor2.specs.Op.{Op, mapOp, unknown, carried}
 use Rattle.btor2.specs.Walk.{walk}
-use Rattle.btor2.specs.SortRule.{Mark, markOf, isStateOp, hasSort, is, Judged, judge, noLine, judged, allRight, meetsSortRule, lineIs}
+use Rattle.btor2.specs.SortRule.{Mark, markOf, isStateOp, hasSort, is, Judged, judge, noLine, judged, allRight, meetsSortRule}
+use Rattle.btor2.proofs.LineIs.{lineIs}
 use Rattle.btor2.proofs.Op.{mark-map}
 use Rattle.btor2.proofs.Walk.{more, walk-append, walk-kept}
 

@@ -101,7 +101,3 @@ allRight (j ∷ js) = j .right && allRight js
 -- every line meets the sort rule; "an operand is an earlier line other than Next and Bad"
 unfoldable pub meetsSortRule : List (Op ℕ) → Bool
 meetsSortRule xs = allRight (judged xs)
-
--- the line at place p is a value line of sort s
-unfoldable pub lineIs : NodeType → List (Op ℕ) → ℕ → Bool
-lineIs s xs p = hasSort s (carried (getD xs p unknown))

@@ -10,7 +10,8 @@ use lib.ListN.{length, take, length-append}
 use Rattle.btor2.specs.declared.NodeRef.{NodeRef}
 use Rattle.btor2.specs.declared.NodeType.the-variants.{Word, Memory}
 use Rattle.btor2.specs.Op.{Op}
-use Rattle.btor2.specs.SortRule.{meetsSortRule, lineIs}
+use Rattle.btor2.specs.SortRule.{meetsSortRule}
+use Rattle.btor2.proofs.LineIs.{lineIs}
 use Rattle.btor2.specs.Value.{Value, Env, value}
 use Rattle.btor2.proofs.Value.{value-kept}
 use Rattle.btor2.proofs.SortRule.{line-kept}

@@ -12,7 +12,8 @@ use Rattle.btor2.specs.declared.Name.{Name}
 use Rattle.btor2.specs.declared.NodeType.the-variants.{Bit}
 use Rattle.program.specs.OneLine.{newIte}
 use Rattle.program.specs.Prog.{Prog, done, line, _>>=_}
-use Rattle.program.specs.Lines.{linesOf, resultOf, placeAfter}
+use Rattle.program.specs.Lines.{linesOf, placeAfter}
+use Rattle.program.proofs.Result.{resultOf}
 use Rattle.control_flow.specs.ControlFlow.{Bits, Kernel, controlFlowFromAny, controlFlowFromRegular, controlFlowFromBranch, controlFlowFromEcall, controlFlowFromJalr}
 use Rattle.control_flow.specs.FlagName.{nameAt}
 use Rattle.join.specs.Program.{Edge, Dispatch, edgeName, namesOf, nextsOf, fromEdge, joinEdges, joinDispatches, joinAddress}

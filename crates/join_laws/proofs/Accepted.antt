@@ -11,7 +11,8 @@ use lib.ListN.{length, getD, drop}
 use lib.Seq.{length-sets}
 use Rattle.btor2.specs.declared.NodeType.the-variants.{Bit as B1, Word as W}
 use Rattle.btor2.specs.Op.{Op}
-use Rattle.btor2.specs.SortRule.{meetsSortRule, lineIs}
+use Rattle.btor2.specs.SortRule.{meetsSortRule}
+use Rattle.btor2.proofs.LineIs.{lineIs}
 use Rattle.btor2.specs.Value.{Env, value}
 use Rattle.btor2.proofs.Range.{value-fits}
 use Rattle.btor2.proofs.SortRule.{line-kept}
@@ -29,7 +30,8 @@ use Rattle.roles_check.specs.RolesFit.{valueSort, rolesFit}
 use Rattle.edges.specs.Edges.{branchOrigin, syscallOrigin}
 use Rattle.btor2_list.specs.Limits.{mostLines, mostNid}
 use Rattle.lowering_refusals.proofs.Within.{neither}
-use Rattle.program.specs.Lines.{linesOf, resultOf, placeAfter}
+use Rattle.program.specs.Lines.{linesOf, placeAfter}
+use Rattle.program.proofs.Result.{resultOf}
 use Rattle.lowering_laws.specs.Lines.{numbered, taking}
 use Rattle.lowering_laws.specs.Elsewhere.{Elsewhere}
 use Rattle.lowering_laws.proofs.Laid.{Room, Laid, laid, taking-most}
@@ -50,6 +52,7 @@ use Rattle.join.specs.Join.{JoinAnswer, joinStore, joinSettled, joining}
 use Rattle.join.proofs.Numbers.{Passed, passed}
 use Rattle.join_laws.specs.Push.{pushed}
 use Rattle.join_laws.specs.Active as Act
+use Rattle.join_laws.proofs.Sound as Sd
 use Rattle.join_laws.specs.Means.{ZeroAndOne, AcceptedJoin, JoinsMean}
 use Rattle.join_laws.proofs.Pushed.{pushed-lines}
 use Rattle.join_laws.proofs.Edges.{join-means, plain-means}
@@ -207,10 +210,10 @@ module _ (l : JoinLent) (h : JoinHeld) (g : JoinInput) (sorted : T (meetsSortRul
       ∙ laid-pushed (joinProgram (h .state) g) (joinLineCount (h .state) g) (l .list) (h .state .tally) _ (its-run l h g e)
 
   module _ (env : Env) where
-    bit : (p : ℕ) → bitOut (l .list) n p ≡ false → Act.Bit env xs p
+    bit : (p : ℕ) → bitOut (l .list) n p ≡ false → Sd.Bit env xs p
     bit p o = record { place = inside B1 xs p (is-bit p o); bound = value-fits env xs sorted B1 p (is-bit p o) .bits tt }
 
-    sound : (es : List (Edge ℕ)) → any (unflagged (l .list) n (flagOf g)) es ≡ false → any (edgeOut (l .list) n) es ≡ false → Act.AllSound env (flagOf g) (kernelIn g) xs es
+    sound : (es : List (Edge ℕ)) → any (unflagged (l .list) n (flagOf g)) es ≡ false → any (edgeOut (l .list) n) es ≡ false → Sd.AllSound env (flagOf g) (kernelIn g) xs es
     sound [] u o = tt
     sound (x ∷ es) u o =
         let a = neither (bitOut (l .list) n (flagOf g (x .from))) _ u in
@@ -221,7 +224,7 @@ module _ (l : JoinLent) (h : JoinHeld) (g : JoinInput) (sorted : T (meetsSortRul
         )
 
     reached : (ds : List (Dispatch ℕ)) → any (dispatchOut (l .list) n) ds ≡ false → any (bitOut (l .list) n) (dynamicsIn (g .dynamics)) ≡ false
-        → Act.AllReached env (λ r. registerNode (h .state .roles) r .0) (dynamicFor (g .dynamics)) xs ds
+        → Sd.AllReached env (λ r. registerNode (h .state .roles) r .0) (dynamicFor (g .dynamics)) xs ds
     reached [] o d = tt
     reached (x ∷ ds) o d =
         let a = neither (eqb (x .register) 0 || (ltb lastRegister (x .register) || wordOut (l .list) n (x .address))) _ o in
@@ -237,7 +240,7 @@ module _ (l : JoinLent) (h : JoinHeld) (g : JoinInput) (sorted : T (meetsSortRul
 
   -- what its values rest on
   module _ (env : Env) (z : ZeroAndOne env l h) where
-    bits : Act.KnownBits env xs (bitsIn (h .state))
+    bits : Sd.KnownBits env xs (bitsIn (h .state))
     bits = record {
       zero = inside B1 xs _ (its-bit 0 (omega arith));
       one = inside B1 xs _ (its-bit 1 (omega arith));
@@ -246,7 +249,7 @@ module _ (l : JoinLent) (h : JoinHeld) (g : JoinInput) (sorted : T (meetsSortRul
       oneValue = z .one;
     }
 
-    all-sound : Act.AllSound env (flagOf g) (kernelIn g) xs (edgesOf g)
+    all-sound : Sd.AllSound env (flagOf g) (kernelIn g) xs (edgesOf g)
     all-sound = sound env (edgesOf g) (flagged .edges) (its l h g e .edges)
 
     starts : g .asked .flow .0 < length xs
@@ -255,7 +258,7 @@ module _ (l : JoinLent) (h : JoinHeld) (g : JoinInput) (sorted : T (meetsSortRul
     module _ (full : Run Listed ℕ) (forgot : ran (full .state .store) (full .value) ≡ exec append (at (l .list) (h .state .tally)) (joinProgram (h .state) g)) where
       means-in : Act.on env (operators (full .state .store .words) (full .state .store .tally .lines)) (full .value)
           ≡ ((Act.anyActive env (flagOf g) (bitsIn (h .state)) (kernelIn g) xs (h .state .counts .names) (edgesOf g) (g .asked .flow .0)
-          || Act.anyDispatched env (λ r. registerNode (h .state .roles) r .0) (dynamicFor (g .dynamics)) xs (dispatchesOf g)) || Act.on env xs (g .asked .flow .0))
+          || any (Act.activeDispatch env (λ r. registerNode (h .state .roles) r .0) (dynamicFor (g .dynamics)) xs) (dispatchesOf g)) || Act.on env xs (g .asked .flow .0))
       unfolding joinProgram
       means-in =
           ap (λ (r : Run (List (Op ℕ)) ℕ). Act.on env (r .state) (r .value)) (as-pushed full forgot)
@@ -263,7 +266,7 @@ module _ (l : JoinLent) (h : JoinHeld) (g : JoinInput) (sorted : T (meetsSortRul
           bits (bit env (g .asked .none .0) (flagged .none)) all-sound (reached env (dispatchesOf g) (its l h g e .dispatches) (flagged .dynamics)) starts
 
       plain-in : Act.NoSyscall (edgesOf g) → g .asked .dispatches ≡ 0
-          → Act.on env (operators (full .state .store .words) (full .state .store .tally .lines)) (full .value) ≡ (Act.anyPlain env (flagOf g) xs (edgesOf g) || Act.on env xs (g .asked .flow .0))
+          → Act.on env (operators (full .state .store .words) (full .state .store .tally .lines)) (full .value) ≡ (any (Act.activePlain env (flagOf g) xs) (edgesOf g) || Act.on env xs (g .asked .flow .0))
       unfolding joinProgram recordsIn
       plain-in o d =
           ap (λ (r : Run (List (Op ℕ)) ℕ). Act.on env (r .state) (r .value)) (as-pushed full forgot)

@@ -9,6 +9,7 @@ use lib.ListN.{length}
 use Rattle.btor2.specs.Op.{Op}
 use Rattle.btor2.specs.Value.{Env, value}
 use Rattle.btor2.proofs.Value.{value-kept}
+use Rattle.list_check.specs.Lines.{any}
 use Rattle.program.specs.Prog.{Prog, done, _>>=_, Run, ran, exec}
 use Rattle.program.proofs.Exec.{exec-bind}
 use Rattle.control_flow.specs.ControlFlow.{Bits, Kernel, controlFlowFromRegular, controlFlowFromBranch, controlFlowFromEcall, controlFlowFromJalr}
@@ -16,7 +17,8 @@ use Rattle.join.specs.Program.{Edge, Dispatch, fromEdge, joinEdges, joinDispatc
 use Rattle.control_flow.specs.FlagName.{nameAt}
 use Rattle.join.specs.Program.{edgeName}
 use Rattle.join_laws.specs.Push.{push, pushed}
-use Rattle.join_laws.specs.Active.{on, Bit, KnownBits, activeEdge, anyActive, Sound, AllSound, activePlain, anyPlain, activeDispatch, anyDispatched, Reached, AllReached, NoSyscall, JoinMeans, PlainMeans}
+use Rattle.join_laws.specs.Active.{on, activeEdge, anyActive, activePlain, activeDispatch, NoSyscall}
+use Rattle.join_laws.proofs.Sound.{Bit, KnownBits, Sound, AllSound, Reached, AllReached, JoinMeans, PlainMeans}
 use Rattle.join_laws.proofs.Pushed.{bit-kept}
 use Rattle.join_laws.proofs.Step.{Stepped, given-kept, wider, by, twice, regular, branched, called, jumped}
 
@@ -72,8 +74,7 @@ module _ (env : Env) (b : Bits ℕ) (registers dynamics : ℕ → ℕ) where
     reached-kept xs ys zs e ds (s .1),
   )
 
-  dispatched-kept : (xs ys zs : List (Op ℕ)) → ys ≡ xs ++ zs → (ds : List (Dispatch ℕ)) → AllReached env registers dynamics xs ds → anyDispatched env registers dynamics ys ds ≡ anyDispatched env registers dynamics xs ds
-  unfolding anyDispatched
+  dispatched-kept : (xs ys zs : List (Op ℕ)) → ys ≡ xs ++ zs → (ds : List (Dispatch ℕ)) → AllReached env registers dynamics xs ds → any (activeDispatch env registers dynamics ys) ds ≡ any (activeDispatch env registers dynamics xs) ds
   dispatched-kept xs ys zs e [] s = refl
   dispatched-kept xs ys zs e (x ∷ ds) s =
       let head : activeDispatch env registers dynamics (xs ++ zs) x ≡ activeDispatch env registers dynamics xs x =
@@ -81,14 +82,14 @@ module _ (env : Env) (b : Bits ℕ) (registers dynamics : ℕ → ℕ) where
       ap₂ (λ p q. p || q) (ap (λ l. activeDispatch env registers dynamics l x) e ∙ head) (dispatched-kept xs ys zs e ds (s .1))
 
   pub dispatches : (xs : List (Op ℕ)) → KnownBits env xs b → (ds : List (Dispatch ℕ)) → AllReached env registers dynamics xs ds → (flow : ℕ) → flow < length xs
-      → Stepped env xs flow (anyDispatched env registers dynamics xs ds) (pushed xs (joinDispatches b registers dynamics ds flow))
-  unfolding joinDispatches anyDispatched
+      → Stepped env xs flow (any (activeDispatch env registers dynamics xs) ds) (pushed xs (joinDispatches b registers dynamics ds flow))
+  unfolding joinDispatches
   dispatches xs g [] s flow hf = record { more = []; extends = sym (append-nil xs); place = hf; is = refl }
   dispatches xs g (x ∷ ds) s flow hf =
       let one = jumped env xs b g flow hf (registers (x .register)) (dynamics (x .register)) (x .address) (s .0 .dynamic) in
       let p = controlFlowFromJalr b (registers (x .register)) (dynamics (x .register)) (x .address) flow in
       let y = pushed xs p in
-      subst (λ q. Stepped env xs flow (activeDispatch env registers dynamics xs x || anyDispatched env registers dynamics xs ds) q)
+      subst (λ q. Stepped env xs flow (activeDispatch env registers dynamics xs x || any (activeDispatch env registers dynamics xs) ds) q)
       (sym (exec-bind push p (λ f. joinDispatches b registers dynamics ds f) xs))
       (by env (ap (λ t. activeDispatch env registers dynamics xs x || t) (dispatched-kept xs (y .state) (one .more) (one .extends) ds (s .1)))
       (twice env one
@@ -100,7 +101,7 @@ join-means env xs b k flagOf registers dynamics at es ds flow g n s d hf =
     let one = edges env flagOf b k xs (record { given = g; none = n }) at es s flow hf in
     let p = joinEdges b k flagOf at es flow in
     let y = pushed xs p in
-    subst (λ (q : Run (List (Op ℕ)) ℕ). on env (q .state) (q .value) ≡ ((anyActive env flagOf b k xs at es flow || anyDispatched env registers dynamics xs ds) || on env xs flow))
+    subst (λ (q : Run (List (Op ℕ)) ℕ). on env (q .state) (q .value) ≡ ((anyActive env flagOf b k xs at es flow || any (activeDispatch env registers dynamics xs) ds) || on env xs flow))
     (sym (exec-bind push p (λ f. joinDispatches b registers dynamics ds f) xs))
     (by env (ap (λ t. anyActive env flagOf b k xs at es flow || t) (dispatched-kept env b registers dynamics xs (y .state) (one .more) (one .extends) ds d))
     (twice env one
@@ -109,8 +110,7 @@ join-means env xs b k flagOf registers dynamics at es ds flow g n s d hf =
 -- ---- regular and branch edges
 
 module _ (env : Env) (flagOf : ℕ → ℕ) (b : Bits ℕ) (k : Kernel ℕ) where
-  plain-kept : (xs ys zs : List (Op ℕ)) → ys ≡ xs ++ zs → (es : List (Edge ℕ)) → AllSound env flagOf k xs es → anyPlain env flagOf ys es ≡ anyPlain env flagOf xs es
-  unfolding anyPlain
+  plain-kept : (xs ys zs : List (Op ℕ)) → ys ≡ xs ++ zs → (es : List (Edge ℕ)) → AllSound env flagOf k xs es → any (activePlain env flagOf ys) es ≡ any (activePlain env flagOf xs) es
   plain-kept xs ys zs e [] s = refl
   plain-kept xs ys zs e (x ∷ es) s = ap₂ (λ p q. p || q) (ap (λ l. activePlain env flagOf l x) e ∙ go (eqb (x .origin) 1) refl) (plain-kept xs ys zs e es (s .1))
     where
@@ -123,8 +123,8 @@ module _ (env : Env) (flagOf : ℕ → ℕ) (b : Bits ℕ) (k : Kernel ℕ) wher
       go false o = rw (value-kept env xs zs f (s .0 .flag .place))
 
   active-plain : (xs : List (Op ℕ)) → Ready env flagOf b k xs → (at : ℕ) (es : List (Edge ℕ)) → AllSound env flagOf k xs es → NoSyscall es → (flow : ℕ) → flow < length xs
-      → anyActive env flagOf b k xs at es flow ≡ anyPlain env flagOf xs es
-  unfolding anyActive anyPlain
+      → anyActive env flagOf b k xs at es flow ≡ any (activePlain env flagOf xs) es
+  unfolding anyActive
   active-plain xs r at [] s n flow hf = refl
   active-plain xs r at (x ∷ es) s n flow hf =
       let one = edge env flagOf b k xs r at x (s .0) flow hf in
@@ -135,7 +135,6 @@ module _ (env : Env) (flagOf : ℕ → ℕ) (b : Bits ℕ) (k : Kernel ℕ) wher
       ∙ plain-kept xs (y .state) (one .more) (one .extends) es (s .1))
 
 pub plain-means : PlainMeans
-unfolding anyDispatched
 plain-means env xs b k flagOf registers dynamics at es flow g n s o hf =
     join-means env xs b k flagOf registers dynamics at es [] flow g n s tt hf
     ∙ ap (λ t. t || on env xs flow) (or-false _ ∙ active-plain env flagOf b k xs (record { given = g; none = n }) at es s o flow hf)

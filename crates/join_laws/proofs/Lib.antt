@@ -1,3 +1,4 @@
+pub mod Sound
 pub mod Pushed
 pub mod Step
 pub mod Edges

@@ -19,9 +19,10 @@ use Rattle.btor2.specs.Walk.{walk}
 use Rattle.btor2.proofs.Walk.{walk-append, length-walk}
 use Rattle.btor2.proofs.Value.{value-kept}
 use Rattle.program.specs.Prog.{Prog, done, line, Run, ran, exec}
-use Rattle.program.specs.Lines.{linesOf, resultOf, placeAfter}
+use Rattle.program.specs.Lines.{linesOf, placeAfter}
+use Rattle.program.proofs.Result.{resultOf}
 use Rattle.join_laws.specs.Push.{push, pushed}
-use Rattle.join_laws.specs.Active.{Bit}
+use Rattle.join_laws.proofs.Sound.{Bit}
 
 -- the program's lines after the others
 pub pushed-lines : {X : Type 0} (p : Prog ℕ X) (xs : List (Op ℕ)) (n k : ℕ) → length xs ≡ n + k → pushed xs p ≡ ran (xs ++ linesOf (placeAfter n) k p) (resultOf (placeAfter n) k p)

@@ -13,7 +13,8 @@ use Rattle.btor2.specs.declared.Name.{Name}
 use Rattle.btor2.specs.declared.NodeType.{NodeType}
 use Rattle.btor2.specs.declared.NodeType.the-variants.{Bit as B1, Word as W}
 use Rattle.btor2.specs.Op.{Op, mapOp, ite, eq, and, stateInit, next, unknown, carried}
-use Rattle.btor2.specs.SortRule.{Mark, Judged, hasSort, is, rule, isStateOp, markOf, judge, noLine, judged, allRight, meetsSortRule, lineIs}
+use Rattle.btor2.specs.SortRule.{Mark, Judged, hasSort, is, rule, isStateOp, markOf, judge, noLine, judged, allRight, meetsSortRule}
+use Rattle.btor2.proofs.LineIs.{lineIs}
 use Rattle.btor2.specs.Walk.{walk}
 use Rattle.btor2.proofs.Walk.{walk-append}
 use Rattle.btor2.proofs.SortRule.{mark-at, mark-line, line-kept}

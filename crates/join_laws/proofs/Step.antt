@@ -20,7 +20,8 @@ use Rattle.program.specs.OneLine.{newIte, newAndBit}
 use Rattle.program.proofs.Exec.{exec-bind}
 use Rattle.control_flow.specs.ControlFlow.{Bits, Kernel, controlFlowFromAny, controlFlowFromRegular, controlFlowFromBranch, controlFlowFromEcall, controlFlowFromJalr}
 use Rattle.join_laws.specs.Push.{push, pushed}
-use Rattle.join_laws.specs.Active.{on, Bit, KnownBits}
+use Rattle.join_laws.specs.Active.{on}
+use Rattle.join_laws.proofs.Sound.{Bit, KnownBits}
 use Rattle.join_laws.proofs.Pushed.{longer, value-ite, value-and, value-eq, value-state, bit-kept, and-bits, comp-bit, comp-on}
 
 module _ (env : Env) where

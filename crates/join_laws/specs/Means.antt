@@ -10,6 +10,7 @@ use Rattle.btor2.specs.SortRule.{meetsSortRule}
 use Rattle.btor2.specs.Value.{Env, value}
 use Rattle.btor2_list.specs.Record.{stride}
 use Rattle.btor2_list.specs.View.{view}
+use Rattle.list_check.specs.Lines.{any}
 use Rattle.program.specs.Lines.{linesOf, placeAfter}
 use Rattle.lowering_laws.specs.Elsewhere.{Elsewhere}
 use Rattle.lowering_laws.specs.Lines.{numbered, taking}
@@ -21,7 +22,7 @@ use Rattle.join.specs.Given.{dynamicFor}
 use Rattle.join.specs.declared.JoinHeld.{JoinHeld}
 use Rattle.join.specs.Refusal.{JoinLent, JoinInput, edgesOf, dispatchesOf, flagOf, bitsIn, kernelIn, joinProgram, joinLineCount, joinRefusal}
 use Rattle.join.specs.Join.{JoinAnswer, joining}
-use Rattle.join_laws.specs.Active.{on, anyActive, anyDispatched, anyPlain, NoSyscall}
+use Rattle.join_laws.specs.Active.{on, anyActive, activePlain, activeDispatch, NoSyscall}
 
 -- "where the zero-bit and one-bit nodes evaluate to 0 and 1": under the states and inputs env
 pub record ZeroAndOne (env : Env) (l : JoinLent) (h : JoinHeld) : Type 0 where
@@ -58,11 +59,11 @@ module _ (l : JoinLent) (h : JoinHeld) (g : JoinInput) where
     pub means : (env : Env) → ZeroAndOne env l h
         → on env (after a) (a .flow)
         ≡ ((anyActive env (flagOf g) (bitsIn (h .state)) (kernelIn g) before (h .state .counts .names) (edgesOf g) (g .asked .flow .0)
-        || anyDispatched env (λ r. registerNode (h .state .roles) r .0) (dynamicFor (g .dynamics)) before (dispatchesOf g)) || on env before (g .asked .flow .0))
+        || any (activeDispatch env (λ r. registerNode (h .state .roles) r .0) (dynamicFor (g .dynamics)) before) (dispatchesOf g)) || on env before (g .asked .flow .0))
     -- "For regular and branch edges [..] the result is 1 exactly when an edge is active (its source's flag, and for a branch its condition too, is
     -- 1) or the starting flow was 1": all of them values of the list before the join
     pub plain : (env : Env) → ZeroAndOne env l h → NoSyscall (edgesOf g) → g .asked .dispatches ≡ 0
-        → on env (after a) (a .flow) ≡ (anyPlain env (flagOf g) before (edgesOf g) || on env before (g .asked .flow .0))
+        → on env (after a) (a .flow) ≡ (any (activePlain env (flagOf g) before) (edgesOf g) || on env before (g .asked .flow .0))
 
 -- the claim: of every accepted join on a list that meets the sort rule
 abbrev pub JoinsMean : Type 0

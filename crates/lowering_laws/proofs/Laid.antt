@@ -19,7 +19,8 @@ use Rattle.btor2_list.proofs.Fitting.{areaFits, line-fits}
 use Rattle.program.specs.Prog.{Prog, done, line, Run, ran, exec}
 use Rattle.builder.specs.declared.Tally.{Tally}
 use Rattle.builder.specs.Append.{Store, at, nidsTaken, appendLine, append}
-use Rattle.program.specs.Lines.{linesOf, resultOf, placeAfter}
+use Rattle.program.specs.Lines.{linesOf, placeAfter}
+use Rattle.program.proofs.Result.{resultOf}
 use Rattle.lowering_laws.specs.Lines.{taking, numbered}
 use Rattle.lowering_laws.proofs.Growth.{fitting}
 

@@ -12,7 +12,8 @@ use Rattle.btor2.specs.declared.NodeType.{NodeType}
 use Rattle.btor2.specs.declared.MaybeSort.{MaybeSort}
 use Rattle.btor2.specs.declared.MaybeSort.the-variants.{Sort, NoSort}
 use Rattle.btor2.specs.Op.{Op, unknown, carried}
-use Rattle.btor2.specs.SortRule.{Judged, hasSort, is, judge, noLine, judged, allRight, meetsSortRule, lineIs}
+use Rattle.btor2.specs.SortRule.{Judged, hasSort, is, judge, noLine, judged, allRight, meetsSortRule}
+use Rattle.btor2.proofs.LineIs.{lineIs}
 use Rattle.btor2.specs.Value.{Value, number, Env, evalOp, values, value}
 use Rattle.btor2.proofs.Sort.{same-sort}
 use Rattle.btor2.proofs.SortRule.{both, mark-line}

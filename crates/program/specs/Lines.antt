@@ -1,4 +1,4 @@
--- A program read without a state: its lines, and what it gives in the end.
+-- A program read without a state: its lines.
 use Prim.Native.Nat.{ℕ, _+_}
 use mathlib.Core.List.{List, [], _∷_}
 use Rattle.btor2.specs.Op.{Op}
@@ -8,10 +8,6 @@ use Rattle.program.specs.Prog.{Prog, done, line}
 unfoldable pub linesOf : {A X : Type 0} → (ℕ → A) → ℕ → Prog A X → List (Op A)
 linesOf at k (done x) = []
 linesOf at k (line o f) = o ∷ linesOf at (k + 1) (f (at k))
-
-unfoldable pub resultOf : {A X : Type 0} → (ℕ → A) → ℕ → Prog A X → X
-resultOf at k (done x) = x
-resultOf at k (line o f) = resultOf at (k + 1) (f (at k))
 
 -- the places of lines after n others
 abbrev pub placeAfter : ℕ → ℕ → ℕ

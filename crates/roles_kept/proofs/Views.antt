@@ -12,7 +12,8 @@ use Rattle.btor2.specs.declared.MaybeSort.{MaybeSort}
 use Rattle.btor2.specs.declared.MaybeSort.the-variants.{Sort, NoSort}
 use Rattle.btor2.specs.Sort.{sortNumber}
 use Rattle.btor2.specs.Op.{Op, unknown, carried, identifiers}
-use Rattle.btor2.specs.SortRule.{hasSort, lineIs}
+use Rattle.btor2.specs.SortRule.{hasSort}
+use Rattle.btor2.proofs.LineIs.{lineIs}
 use Rattle.btor2_list.specs.Record.{stride}
 use Rattle.btor2_list.specs.Node.{Node, node}
 use Rattle.btor2_list.specs.View.{view}
