@@ -6,7 +6,7 @@ use mathlib.Core.Path.{_≡_}
 use mathlib.Core.List.{List, [], _∷_}
 use lib.ListN.{length, set}
 use Rattle.lowering.specs.Lowering.{Lent, lent}
-use Rattle.state_words.specs.Words.{stateWords, stateIn}
+use Rattle.state_words.specs.Words.{edgesWord, dispatchesWord, badsWord, stateWords, stateIn}
 use Rattle.lowering.specs.Words.{Given, loweringWords}
 use Rattle.lowering.specs.All.{LowerCall}
 use Rattle.join.specs.Refusal.{joinLent, JoinInput}
@@ -40,7 +40,7 @@ pub data Link : Type 0 where
 
 -- the state's words once the host has set these counts
 abbrev pub withCounts : List ℕ → LowerLink → List ℕ
-withCounts ws c = set (set (set ws 3 (c .edgeCount)) 4 (c .dispatchCount)) 5 (c .badCount)
+withCounts ws c = set (set (set ws edgesWord (c .edgeCount)) dispatchesWord (c .dispatchCount)) badsWord (c .badCount)
 
 unfoldable pub answerBy : Kept → LowerLink → Given
 answerBy k c =

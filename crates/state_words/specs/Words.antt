@@ -11,7 +11,25 @@ use Rattle.roles.specs.Roles.{ref, roleCount, withFlows, withOutcome}
 use Rattle.lowering_refusals.specs.declared.Counts.{Counts}
 use Rattle.lowering_refusals.specs.declared.State.{State}
 
--- ---- the state's words: lines, next identifier, counts of names, edges, dispatches and bads, and from word 6 on the roles
+-- ---- the state's words: the tally, the counts, and then the roles
+
+abbrev pub linesWord : ℕ
+linesWord = 0
+
+abbrev pub nidWord : ℕ
+nidWord = 1
+
+abbrev pub namesWord : ℕ
+namesWord = 2
+
+abbrev pub edgesWord : ℕ
+edgesWord = 3
+
+abbrev pub dispatchesWord : ℕ
+dispatchesWord = 4
+
+abbrev pub badsWord : ℕ
+badsWord = 5
 
 abbrev pub firstRole : ℕ
 firstRole = 6
@@ -32,8 +50,8 @@ stateOf t c roles = record { tally = t; counts = c; roles = roles }
 
 unfoldable pub stateIn : List ℕ → State
 stateIn ws = record {
-  tally = record { lines = getD ws 0 0; nid = getD ws 1 0 };
-  counts = record { names = getD ws 2 0; edges = getD ws 3 0; dispatches = getD ws 4 0; bads = getD ws 5 0 };
+  tally = record { lines = getD ws linesWord 0; nid = getD ws nidWord 0 };
+  counts = record { names = getD ws namesWord 0; edges = getD ws edgesWord 0; dispatches = getD ws dispatchesWord 0; bads = getD ws badsWord 0 };
   roles = rolesIn ws;
 }
 
