@@ -1,4 +1,4 @@
--- What edges and dispatches refer to, is in the list; and the claims over a list of lines and the program of a join. Assumes nothing.
+-- That what edges and dispatches refer to is in the list, and the claims over a list of lines and the program of a join. Assumes nothing.
 use Prim.Native.Nat.{ℕ, _<_}
 use mathlib.Core.Path.{_≡_}
 use mathlib.Core.Bool.{_||_}
