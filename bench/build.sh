@@ -1,6 +1,6 @@
 #!/bin/sh
 # build.sh [SOURCE [LIBHOST]]: builds target/bench from the Rust files of SOURCE, as differential/build.sh does ('' is its default).
-# With LIBHOST, the path of our library's archive libhost.a, our half is linked too.
+# With LIBHOST, the path of our library's archive libhost.a, our half is linked too, and target/evaluation is built.
 set -eu
 
 here=$(cd "$(dirname "$0")" && pwd)
@@ -28,6 +28,12 @@ for crate in byteorder anyhow bytesize log riscu unicorn; do
     externs="$externs --extern $crate"
 done
 # A release build, as cargo makes it.
+compile() {
+    rustc --edition 2021 -C opt-level=3 -C debug-assertions=off -C overflow-checks=off --cap-lints allow --crate-type bin "$@"
+}
 # shellcheck disable=SC2086
-rustc --edition 2021 -C opt-level=3 -C debug-assertions=off -C overflow-checks=off --cap-lints allow \
-    -L "$out/oracle-lib" $externs $host --crate-type bin --crate-name bench -o "$out/bench" "$out/bench-tree/main.rs"
+compile -L "$out/oracle-lib" $externs $host --crate-name bench -o "$out/bench" "$out/bench-tree/main.rs"
+if [ -n "$library" ]; then
+    # shellcheck disable=SC2086
+    compile $host --crate-name evaluation -o "$out/evaluation" "$here/src/evaluation.rs"
+fi

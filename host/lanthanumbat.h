@@ -1,6 +1,7 @@
-// Lowering RV64 instructions to BTOR2 lines, and joining their edges into flags, for a host in C. `rt staticlib host` writes
-// target/staticlib/libhost.a, which defines these functions; it calls memcpy and memset and nothing else. What each gives is proved equal to
-// a definition: crates/lowering/specs (Words, All), crates/join/specs (Words) and crates/host/specs.
+// Lowering RV64 instructions to BTOR2 lines, joining their edges into flags, and evaluating lines on given values, for a host in C. `rt
+// staticlib host` writes target/staticlib/libhost.a, which defines these functions; it calls memcpy and memset and nothing else. What each
+// gives is proved equal to a definition: crates/lowering/specs (Words, All), crates/join/specs (Words), crates/evaluation/specs (Evaluation)
+// and crates/host/specs.
 //
 // All storage is the host's: a function takes a pointer and a length in elements, keeps neither, and allocates nothing. What is in use stands
 // first; the elements after it are spare room, and an accepted call writes there, to STATE and to the single numbers that it sets only.
@@ -28,6 +29,8 @@
 // BADS: a bad is 1 word: the place of a bad line.
 // FLAGS: a flag is 2 words: address, place of the line that is 1 where the instruction at that address is done.
 // SEQUENTIALS: a sequential is 1 word: the place of a next line.
+// VALUES: what a state or an input of sort bit, word or an input's is, 2 words: place of its line, value.
+// MEMORY: what a state or an input of sort memory has at an address, 3 words: place of its line, address, word.
 //
 // STATE: 85 words, which the host makes once for its start and hands from call to call:
 //   0 lines in use   1 next identifier   2 bytes of NAMES in use   3 edges   4 dispatches   5 bads in use
@@ -45,6 +48,9 @@
 //   10 identifiers at the start   11 a line that is not well formed   12 the sort rule   13 a role   14 the output is too short
 //   15 an edge whose source has no flag, or a flag, kernel node, dynamic flag or starting flow that is no line with a value of sort bit
 //   16 an unknown origin, a branch without a condition of sort bit, a dispatch of x0 or of no register or whose address node is no word
+//   17 a line that is visited breaks the sort rule   18 a visit past the 100,000th   19 a list of more than 4,096 lines or above its storage,
+//   an unknown kind or sort or an operand that is no earlier line with a value anywhere in it, a line asked for that has no value of sort bit or
+//   word
 #ifndef LANTHANUMBAT_H
 #define LANTHANUMBAT_H
 
@@ -63,7 +69,11 @@ enum {
     LANTHANUMBAT_DYNAMICS = 31,
     LANTHANUMBAT_STATE = 85,
     LANTHANUMBAT_CALL = 7,
-    LANTHANUMBAT_MOST_LINES = 1048576
+    LANTHANUMBAT_VALUE = 2,
+    LANTHANUMBAT_CELL = 3,
+    LANTHANUMBAT_MOST_LINES = 1048576,
+    LANTHANUMBAT_BENCH_LINES = 4096,
+    LANTHANUMBAT_MOST_VISITS = 100000
 };
 
 // A flag that is absent: the largest place, which no list reaches.
@@ -141,6 +151,25 @@ uint64_t lanthanumbat_check_start(const uint64_t *list, size_t list_words, const
                                   size_t names_bytes, const uint64_t *edges, size_t edges_words, const uint64_t *dispatches,
                                   size_t dispatches_words, const uint64_t *bads, size_t bads_words, const uint64_t *state,
                                   size_t state_words);
+
+// Evaluates the line at place `asked` on given values: BTOR2's operators, and for states and inputs what VALUES and MEMORY say; no init and no
+// next is used. Refusals 19, then 18 and 17 in the order of the visits. Nothing but `value` and `visits` is written, and a refused call leaves
+// both as they were. Names and identifiers are not read, so that a list may have any.
+// A visit is one look at a line. There is no memory of earlier ones, so that a line that two others name is visited twice with all that it
+// names. Operands are visited in printed order, all of them, but of an ite the condition and then the chosen branch, of a read or a write the
+// address before the memory, and of a write the value only where its address is the one that is asked for, else its memory.
+// Before the first visit the whole list is checked. A visit of a state or an input then goes through VALUES or MEMORY up to the first record for
+// it: give the records that the line needs.
+// A visit waits on the stack for those of its operands, with up to 464 bytes in a build for x86-64: 4,096 lines, each of which waits for the one
+// before, take 1.9 MB. Have 2 MB for a call, or 500 bytes for each line and 8 KB: too little stack is no refusal.
+//   list, lines     the list, and how many of its lines count, at most LANTHANUMBAT_BENCH_LINES: of a longer one those up to the line asked for do
+//   values          the first record for a line counts, 0 where there is none; a value is taken modulo 2 to the width of the line's sort
+//   memory          the first record for a line and an address counts, 0 where there is none
+//                   a record for another line has no effect; words at the end that fill no record are not looked at
+//   asked           the place of a line with a value of sort bit or word
+//   value, visits   are set to the line's value and to the number of visits, at most LANTHANUMBAT_MOST_VISITS
+uint64_t lanthanumbat_evaluate(const uint64_t *list, size_t list_words, size_t lines, const uint64_t *values, size_t values_words,
+                               const uint64_t *memory, size_t memory_words, size_t asked, uint64_t *value, uint64_t *visits);
 
 #ifdef __cplusplus
 }

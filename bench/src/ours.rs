@@ -23,6 +23,7 @@ const MOST_NAME: usize = 33; // bytes of a bad line's name
 const FIRST: u64 = 20; // the identifier at place 0
 const START: usize = 39; // lines
 const FLAG: usize = 38;
+const FLOWS: usize = 45; // the state's word for x1
 const CONST: u64 = 1;
 const STATE: u64 = 19;
 
@@ -47,6 +48,13 @@ pub struct Ours<'a> {
 impl<'a> Ours<'a> {
     pub fn new(records: &'a [Record]) -> Self {
         Self { records, lent: Lent::default() }
+    }
+
+    // The list with the lines of all records, and the flows of x1 to x31.
+    pub fn lowered(&mut self) -> (&[u64], &[u64]) {
+        self.begin();
+        let lines = START + self.lower();
+        (&self.lent.list[..lines * LINE], &self.lent.state[FLOWS..FLOWS + 31])
     }
 }
 

@@ -11,7 +11,7 @@ enum { GUARD = 0xa5 };
 struct area areas[AREAS];
 int failed;
 
-static const size_t element[AREAS] = {8, 1, 8, 8, 8, 8, 1, 1, 8, 8, 8, 8, sizeof(size_t), sizeof(size_t)};
+static const size_t element[AREAS] = {8, 1, 8, 8, 8, 8, 1, 1, 8, 8, 8, 8, sizeof(size_t), sizeof(size_t), 8, 8, 8, 8};
 static uint64_t drawn = 88172645463325252u;
 
 void fail(const char *what) {

@@ -4,9 +4,11 @@
 
 #include "../lanthanumbat.h"
 
-enum { LIST, NAMES, EDGES, DISPATCHES, BADS, STATE, HOST, OUT, CALLS, SEQUENTIALS, FLAGS, DYNAMICS, USED, FLOW, AREAS };
+enum {
+    LIST, NAMES, EDGES, DISPATCHES, BADS, STATE, HOST, OUT, CALLS, SEQUENTIALS, FLAGS, DYNAMICS, USED, FLOW, VALUES, CELLS, VALUE, VISITS, AREAS
+};
 enum { LINES_USED, NEXT_NID, NAMES_USED, EDGES_USED, DISPATCHES_USED, BADS_USED, ROLES };
-enum { LINES = 120, MOST_BYTES = 4096, NUMBERS = 17 };
+enum { LINES = 120, MOST_BYTES = 4096, NUMBERS = 20 };
 
 /* An area: its elements' size, how many are lent, and where they stand, with a copy of them and what they were before. From `start` on up to
    where they stand there are guard bytes. */
@@ -62,5 +64,9 @@ void report(const char *what, const unsigned long *by_number);
 /* Joins, in guard_join.c: some whose answer is known, some whose answer is not; then that each answer was seen often, and how often. */
 void try_joins(void);
 void joins_seen(long rounds);
+
+/* Evaluations, in guard_evaluate.c: the same. */
+void try_evaluations(void);
+void evaluations_seen(long rounds);
 
 #endif

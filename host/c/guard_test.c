@@ -152,10 +152,12 @@ int main(int argc, char **argv) {
         restore();
         try_lower();
         try_joins();
+        try_evaluations();
     }
     report("lowerings by refusal", lowerings);
     report("prints and starts", others);
     joins_seen(rounds);
+    evaluations_seen(rounds);
     puts(failed ? "failed" : "ok");
     return failed;
 }

@@ -1,14 +1,14 @@
-/* The header from C: the first word of a line, then a start made with it, lowered, joined, printed and refused. Writes what fails, and ends
-   with status 1 where something does. */
+/* The header from C: the first word of a line, then a start made with it, lowered, joined, printed, evaluated and refused. Writes what fails,
+   and ends with status 1 where something does. */
 #include "../lanthanumbat.h"
 
 #include <stdio.h>
 #include <string.h>
 
 enum { LINES = 200, NAMES = 64, EDGES = 8, DISPATCHES = 2, BADS = 2, SEQUENTIALS = 2, TEXT = 4096 };
-enum { LUI = 0, SRLIW = 22, BLTU = 45, JAL = 47, JALR = 48, ECALL = 49 };
-enum { CONST = 1, ITE = 14, NOT = 18, STATE = 19, BAD = 22 };
-enum { BIT = 1, WORD = 2, MEMORY = 3 };
+enum { LUI = 0, LB = 2, SB = 8, SRLIW = 22, BLTU = 45, JAL = 47, JALR = 48, ECALL = 49 };
+enum { CONST = 1, READ = 2, ADD = 4, UEXT = 13, ITE = 14, NOT = 18, STATE = 19, NEXT = 20, INPUT = 21, BAD = 22 };
+enum { BIT = 1, WORD = 2, MEMORY = 3, BYTE = 11 };
 enum { FIRST = 20, START = 39, FLAG = 38 };
 enum { LINES_USED = 0, NEXT_NID = 1, NAMES_USED = 2, EDGES_USED = 3, ROLES = 6 };
 
@@ -393,6 +393,187 @@ static void test_refused_joins(void) {
     EXPECT(join_with((READY + 10) * LANTHANUMBAT_LINE, LANTHANUMBAT_STATE) == 0);
 }
 
+/*
+ * Evaluation
+ */
+
+enum { ONE_WORD = 3, X5 = 8, X6 = 9, MEMORY_STATE = 35, FLOW_OF_X5 = ROLES + 38 + 5, FLOW_OF_X7 = ROLES + 38 + 7, FLOW_OF_MEMORY = ROLES + 70 };
+enum { VALUES = 3, CELLS = 2, UNTOUCHED = 99 };
+
+/* What states and inputs are, how many records of it are given, and what an evaluation set. */
+struct evaluation {
+    uint64_t values[VALUES * LANTHANUMBAT_VALUE], memory[CELLS * LANTHANUMBAT_CELL];
+    size_t valued, celled;
+    uint64_t value, visits;
+};
+
+static struct evaluation e;
+
+static void give(uint64_t place, uint64_t value) {
+    uint64_t *record = &e.values[e.valued++ * LANTHANUMBAT_VALUE];
+    record[0] = place;
+    record[1] = value;
+}
+
+static void give_cell(uint64_t place, uint64_t address, uint64_t word) {
+    uint64_t *record = &e.memory[e.celled++ * LANTHANUMBAT_CELL];
+    record[0] = place;
+    record[1] = address;
+    record[2] = word;
+}
+
+static void give_nothing(void) {
+    e.valued = e.celled = 0;
+}
+
+/* Puts a line after those in use. Gives its place. */
+static size_t append(uint64_t kind, uint64_t sort, uint64_t a, uint64_t b, uint64_t c) {
+    size_t place = (size_t)s.state[LINES_USED]++;
+    put(place, lanthanumbat_head(FIRST + place, kind, sort, 0, 0), a, b, c);
+    return place;
+}
+
+static uint64_t evaluate_of(const uint64_t *list, size_t list_words, size_t lines, size_t asked) {
+    e.value = e.visits = UNTOUCHED;
+    return lanthanumbat_evaluate(list, list_words, lines, e.values, e.valued * LANTHANUMBAT_VALUE, e.memory, e.celled * LANTHANUMBAT_CELL,
+                                 asked, &e.value, &e.visits);
+}
+
+/* The line comes to this value, after so many visits, and nothing that is lent or given changes. */
+static int comes_to(size_t asked, uint64_t value, uint64_t visits) {
+    struct evaluation given = e;
+    before = s;
+    return evaluate_of(s.list, LINES * LANTHANUMBAT_LINE, (size_t)s.state[LINES_USED], asked) == 0 && e.value == value &&
+           e.visits == visits && unchanged() && memcmp(e.values, given.values, sizeof e.values) == 0 &&
+           memcmp(e.memory, given.memory, sizeof e.memory) == 0;
+}
+
+/* The first lines of the list are refused with this number, and nothing changes. */
+static int lines_refused(size_t list_words, size_t lines, size_t asked, uint64_t number) {
+    before = s;
+    return evaluate_of(s.list, list_words, lines, asked) == number && e.value == UNTOUCHED && e.visits == UNTOUCHED && unchanged();
+}
+
+static int asked_refused(size_t asked, uint64_t number) {
+    return lines_refused(LINES * LANTHANUMBAT_LINE, (size_t)s.state[LINES_USED], asked, number);
+}
+
+static void make_example(void) {
+    make_start();
+    give_nothing();
+    EXPECT(lower(65536, LUI, 5, 0, 0, 1, FLAG) == 0);
+    EXPECT(lower(65540, BLTU, 0, 5, 6, (uint64_t)-4, FLAG) == 0);
+}
+
+/* What x5 is in the next step, where the instruction is done and where it is not, and whether the branch is taken. */
+static void test_evaluation(void) {
+    size_t flow, with_init, byte;
+    make_example();
+    flow = (size_t)s.state[FLOW_OF_X5];
+    EXPECT(flow == START + 1 && comes_to(flow, 0, 3)); /* a missing record is 0 */
+    give(X5, 7);
+    EXPECT(comes_to(flow, 7, 3));
+    EXPECT(comes_to(START + 2, 0, 3) && comes_to(START + 3, 1, 4));
+    give(FLAG, 1);
+    EXPECT(comes_to(flow, 4096, 3));
+    give(X6, 8);
+    EXPECT(comes_to(START + 2, 1, 3) && comes_to(START + 3, 0, 4));
+    e.values[3] = 6; /* a flag has one bit */
+    EXPECT(comes_to(flow, 7, 3));
+    e.values[3] = UINT64_MAX;
+    EXPECT(comes_to(flow, 4096, 3) && comes_to(FLAG, 1, 1));
+    give_nothing();
+    give(X5, 7);
+    give(X5, 8); /* the first record counts */
+    EXPECT(comes_to(flow, 7, 3));
+    with_init = append(STATE, WORD, ONE_WORD, 0, 0);
+    s.list[with_init * LANTHANUMBAT_LINE] |= 1 << 24;
+    EXPECT(comes_to(with_init, 0, 1)); /* the init is not used */
+    byte = append(UEXT, BYTE, append(INPUT, BYTE, 0, 0, 0), 0, 0);
+    give(byte - 1, 511);
+    EXPECT(comes_to(byte, 255, 2));
+}
+
+/* A byte is stored into a word, and what the word is then is given for the next step, in which the byte is loaded. */
+static void test_memory(void) {
+    static const uint64_t address = 1008, old_word = UINT64_C(0x1122334455667788), new_word = UINT64_C(0x112233445566f088);
+    size_t stored;
+    make_start();
+    give_nothing();
+    EXPECT(lower(65536, SB, 0, 5, 6, 9, FLAG) == 0);
+    EXPECT(lower(65540, LB, 7, 5, 0, 9, FLAG) == 0);
+    stored = append(READ, WORD, s.state[FLOW_OF_MEMORY], append(CONST, WORD, address, 0, 0), 0);
+    give(X5, 1000);
+    give(X6, UINT64_C(0xabcdf0));
+    give_cell(MEMORY_STATE, address, old_word);
+    EXPECT(comes_to(stored, old_word, 5)); /* the flag is 0 */
+    give(FLAG, 1);
+    EXPECT(comes_to(stored, new_word, 51));
+    EXPECT(comes_to((size_t)s.state[FLOW_OF_X7], 0x77, 27)); /* a load reads what was there before the step */
+    give_cell(MEMORY_STATE, address, 1); /* the first record counts */
+    EXPECT(comes_to((size_t)s.state[FLOW_OF_X7], 0x77, 27));
+    e.celled = 0;
+    EXPECT(comes_to(stored, 0xf000, 51)); /* a missing record is 0 */
+    give_cell(MEMORY_STATE, address + 8, old_word);
+    give_cell(MEMORY_STATE, address, new_word);
+    EXPECT(comes_to((size_t)s.state[FLOW_OF_X7], (uint64_t)-16, 27));
+}
+
+/* What a visit is refused for, and what is not visited. */
+static void test_refused_visits(void) {
+    size_t n, wrong;
+    make_example();
+    wrong = append(ADD, WORD, X5, FLAG, 0);
+    EXPECT(asked_refused(wrong, 17));
+    EXPECT(asked_refused(append(ITE, WORD, FLAG, X5, wrong), 17));
+    EXPECT(comes_to(append(ITE, WORD, FLAG, wrong, X5), 0, 3));
+    append(ADD, WORD, X5, X5, 0);
+    for (n = 0; n < 14; n++)
+        append(ADD, WORD, s.state[LINES_USED] - 1, s.state[LINES_USED] - 1, 0);
+    n = (size_t)s.state[LINES_USED] - 1;
+    EXPECT(comes_to(n, 0, 65535));
+    EXPECT(comes_to(append(ADD, WORD, n, n - 1, 0), 0, 98303));
+    EXPECT(asked_refused(append(ADD, WORD, n, n, 0), 18));
+    EXPECT(asked_refused(append(ADD, WORD, n + 1, wrong, 0), 17)); /* the wrong line comes before the limit */
+    EXPECT(asked_refused(append(ADD, WORD, n + 2, wrong, 0), 18)); /* and after it */
+}
+
+/* Whether the example and one line more, with this first word and these operands, is refused with 19, whatever is asked for. */
+static int line_refused(uint64_t first, uint64_t a, uint64_t b, uint64_t c) {
+    make_example();
+    put((size_t)s.state[LINES_USED]++, first, a, b, c);
+    return asked_refused(X5, 19);
+}
+
+static void test_unfit_lists(void) {
+    static uint64_t many[(LANTHANUMBAT_BENCH_LINES + 1) * LANTHANUMBAT_LINE];
+    const size_t most = LANTHANUMBAT_BENCH_LINES, words = sizeof many / sizeof *many, last = START + 4;
+    size_t n;
+    for (n = 0; n < words; n += LANTHANUMBAT_LINE)
+        many[n] = lanthanumbat_head(0, STATE, WORD, 0, 0);
+    give_nothing();
+    EXPECT(evaluate_of(many, words, most, most - 1) == 0 && e.value == 0 && e.visits == 1);
+    EXPECT(evaluate_of(many, words, most + 1, 0) == 19 && e.value == UNTOUCHED && e.visits == UNTOUCHED);
+    make_example();
+    EXPECT(lines_refused(last * LANTHANUMBAT_LINE - 1, last, X5, 19)); /* above its storage */
+    EXPECT(lines_refused(last * LANTHANUMBAT_LINE, last, last, 19));   /* asked for no line */
+    EXPECT(asked_refused(LANTHANUMBAT_NO_FLAG, 19));
+    EXPECT(asked_refused(MEMORY_STATE, 19));
+    EXPECT(asked_refused(append(INPUT, BYTE, 0, 0, 0), 19)); /* neither a bit nor a word */
+    EXPECT(asked_refused(append(NEXT, BIT, FLAG, FLAG, 0), 19));
+    EXPECT(asked_refused(append(BAD, 0, FLAG, 0, 0), 19));
+    EXPECT(line_refused(lanthanumbat_head(0, 0, WORD, 0, 0), 0, 0, 0));
+    EXPECT(line_refused(lanthanumbat_head(0, BAD + 1, WORD, 0, 0), 0, 0, 0));
+    EXPECT(line_refused(lanthanumbat_head(0, CONST, 4, 0, 0), 0, 0, 0));
+    EXPECT(line_refused(lanthanumbat_head(0, NOT, WORD, 0, 0), last, 0, 0)); /* its own place */
+    EXPECT(line_refused(lanthanumbat_head(0, STATE, WORD, 0, 1), last, 0, 0));
+    EXPECT(!line_refused(lanthanumbat_head(0, STATE, WORD, 0, 1), FLAG, 0, 0)); /* another sort is not looked at here */
+    append(NEXT, BIT, FLAG, FLAG, 0);
+    EXPECT(comes_to(X5, 0, 1));
+    append(NOT, BIT, s.state[LINES_USED] - 1, 0, 0); /* of a line without a value */
+    EXPECT(asked_refused(X5, 19));
+}
+
 int main(void) {
     test_heads();
     test_calls();
@@ -401,6 +582,10 @@ int main(void) {
     test_wrong_lines();
     test_joins();
     test_refused_joins();
+    test_evaluation();
+    test_memory();
+    test_refused_visits();
+    test_unfit_lists();
     puts(failed ? "failed" : "ok");
     return failed;
 }

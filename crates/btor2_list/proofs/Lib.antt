@@ -4,3 +4,4 @@ pub mod Stored
 pub mod View
 pub mod Fitting
 pub mod Seen
+pub mod Records

@@ -3,3 +3,4 @@ pub mod Record
 pub mod Node
 pub mod View
 pub mod Look
+pub mod Records

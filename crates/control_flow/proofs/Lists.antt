@@ -6,7 +6,7 @@ use mathlib.Core.List.{List, [], _∷_}
 use lib.ListN.{length}
 use Rattle.btor2.specs.Op.{Op}
 use Rattle.btor2.specs.declared.NodeType.{NodeType}
-use Rattle.edges.specs.Records.{putRecord}
+use Rattle.btor2_list.specs.Records.{putRecord}
 use Rattle.program.specs.Prog.{Prog, done, line, _>>=_, Run, ran, exec}
 use Rattle.program.specs.OneLine.{newNext}
 use Rattle.program.proofs.Exec.{chain}

@@ -3,7 +3,7 @@
 use btor2::NodeRef;
 ghost use mathlib.Core.Path.{_≡_};
 ghost use mathlib.Core.List.{[], _∷_};
-ghost use Rattle.edges.specs.Records.{putRecord};
+ghost use Rattle.btor2_list.specs.Records.{putRecord};
 
 // The words of a dispatch: register, from.
 pub const DISPATCH: usize = 2;

@@ -7,7 +7,7 @@ use borrow.Author.Tests.{lt-ltb}
 use lib.ListN.{length, set}
 use lib.Seq.{sets}
 use Rattle.edges.specs.Edges.{edge}
-use Rattle.edges.specs.Records.{putRecord}
+use Rattle.btor2_list.specs.Records.{putRecord}
 use Rattle.edges.specs.declared.InEdge.{InEdge}
 use Rattle.edges.specs.InEdges.{edgeWords}
 

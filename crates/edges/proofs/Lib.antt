@@ -1,2 +1,1 @@
 pub mod InEdges
-pub mod Records

@@ -4,11 +4,15 @@ use mathlib.Core.List.{List, [], _∷_}
 use Rattle.instruction_class.specs.declared.Class.{Class}
 use Rattle.instruction_class.specs.declared.Class.the-variants.{Plain, Access, Addition, Branch, Jump, Indirect, Call}
 use Rattle.models.specs.Places.{Outcome, nothing, register, memory, branch}
-use Rattle.edges.specs.Records.{putRecord}
+use Rattle.btor2_list.specs.Records.{putRecord}
 
 -- the words of an in-edge: to, from, origin and condition, a place
 abbrev pub edgeStride : ℕ
 edgeStride = 4
+
+-- the words of a dispatch: register and address
+abbrev pub dispatchStride : ℕ
+dispatchStride = 2
 
 abbrev pub edge : ℕ → ℕ → ℕ → ℕ → List ℕ
 edge to from origin condition = to ∷ from ∷ origin ∷ condition ∷ []

@@ -6,7 +6,7 @@ use models::Outcome;
 ghost use mathlib.Core.Path.{_≡_};
 ghost use Prim.Native.Nat.{_+_, _≤_};
 ghost use Rattle.models.specs.Code.{outcomeOf};
-ghost use Rattle.edges.specs.Records.{putRecord};
+ghost use Rattle.btor2_list.specs.Records.{putRecord};
 ghost use Rattle.edges.specs.Edges.{edge, edgesAfter, edgeCount, takenCondition, otherCondition};
 
 // The words of an in-edge: to, from, origin, condition.

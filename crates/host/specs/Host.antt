@@ -1,5 +1,5 @@
 -- The functions for a host: a call over the state's words is defined in lowering/specs (Words and All); here printing, whose answer is two
--- numbers, and the check of a start, whose state is words.
+-- numbers, the check of a start, whose state is words, and the bench, whose answer is three numbers.
 use Prim.Native.Nat.{ℕ}
 use mathlib.Core.Bool.{cond}
 use mathlib.Core.List.{List}
@@ -9,6 +9,9 @@ use Rattle.lowering_refusals.specs.declared.Room.{Room}
 use Rattle.print.specs.Printing.{PrintAnswer, refused, written, printing}
 use Rattle.start.specs.Start.{startRefusal}
 use Rattle.state_words.specs.Words.{stateWords, stateIn}
+use Rattle.evaluation.specs.declared.Evaluated.{Evaluated}
+use Rattle.evaluation.specs.declared.Evaluated.the-variants.{Refused, Value}
+use Rattle.evaluation.specs.Evaluation.{evaluated}
 
 -- ---- printing
 
@@ -34,3 +37,22 @@ hostPrinting ws lines host ours from count out =
 -- 9: "a count above its storage", where there is no room for the counts themselves
 unfoldable pub hostCheck : List ℕ → ℕ → Room → List ℕ → ℕ
 hostCheck list host room ws = cond (ltb (length ws) stateWords) 9 (startRefusal list host room (stateIn ws))
+
+-- ---- the bench
+
+-- the number of the refusal, the value, and the visits
+pub record GivenNumbers : Type 0 where
+  pub refusal : ℕ
+  pub value : ℕ
+  pub visits : ℕ
+
+abbrev pub givenNumbers : ℕ → ℕ → ℕ → GivenNumbers
+givenNumbers n x k = record { refusal = n; value = x; visits = k }
+
+-- a refused call leaves value and visits as they were
+abbrev pub numbersBy : Evaluated → ℕ → ℕ → GivenNumbers
+numbersBy (Refused n) x k = givenNumbers n x k
+numbersBy (Value y m) x k = givenNumbers 0 y m
+
+abbrev pub hostEvaluation : List ℕ → ℕ → List ℕ → List ℕ → ℕ → ℕ → ℕ → GivenNumbers
+hostEvaluation ws lines vs ms asked x k = numbersBy (evaluated ws lines vs ms asked) x k

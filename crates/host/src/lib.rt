@@ -1,5 +1,6 @@
 // The library for a host in C or Rust. A slice is a pointer and a length there; the state is 85 words that the host keeps.
 use btor2::NodeRef;
+use evaluation::Evaluated;
 use join::Asked;
 use lowering_refusals::BAD_COUNT;
 use print::Printed;
@@ -13,7 +14,7 @@ ghost use Rattle.lowering.specs.Words.{given, loweringWords};
 ghost use Rattle.lowering.specs.All.{givenAll, loweringAllWords};
 ghost use Rattle.join.specs.Refusal.{joinLent, joinInput};
 ghost use Rattle.join.specs.Words.{givenJoin, joiningWords};
-ghost use Rattle.host.specs.Host.{givenText, hostPrinting, hostCheck};
+ghost use Rattle.host.specs.Host.{givenText, hostPrinting, hostCheck, givenNumbers, hostEvaluation};
 
 // Lowers the instruction `kind`, `rd`, `rs1`, `rs2`, `imm` at an address under a flag. Gives the number of the refusal, or 0. A refused call
 // changes nothing.
@@ -168,4 +169,28 @@ pub extern "C" fn lanthanumbat_check_start(
     }
     let given = state_words::state_in(state);
     start::check_start(list, host, names, edges, dispatches, bads, given)
+}
+
+// Evaluates the line at a place of a list of this many lines on given values, records of node and value, and of node, address and word. Gives
+// the number of the refusal, or 0, and through `value` and `visits` the value and how many visits it took. A refused call changes nothing.
+#[no_mangle]
+pub extern "C" fn lanthanumbat_evaluate(
+    list: &[u64],
+    lines: usize,
+    values: &[u64],
+    memory: &[u64],
+    asked: usize,
+    value: &mut u64,
+    visits: &mut u64,
+) -> u64
+    ensures { λ r. ⌜ givenNumbers r (now (value .exit)) (now (visits .exit)) ≡ hostEvaluation (now (list .entry)) lines (now (values .entry)) (now (memory .entry)) asked (now (value .entry)) (now (visits .entry)) ⌝ }
+{
+    match evaluation_calls::evaluate(list, lines, values, memory, NodeRef(asked)) {
+        Evaluated::Refused(number) => number,
+        Evaluated::Value(x, n) => {
+            *value = x;
+            *visits = n;
+            0
+        }
+    }
 }

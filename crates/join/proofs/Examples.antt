@@ -13,7 +13,7 @@ use Rattle.btor2_list.specs.Node.{Node, node, lineOf, opOf, noName}
 use Rattle.btor2_list.specs.View.{view}
 use Rattle.btor2_name.specs.NameBytes.{ourArea}
 use Rattle.builder.specs.Append.{appendLine}
-use Rattle.edges.specs.Records.{recordsIn}
+use Rattle.btor2_list.specs.Records.{recordsIn}
 use Rattle.program.specs.Prog.{_>>=_}
 use Rattle.program.specs.Lines.{linesOf}
 use Rattle.roles.specs.Roles.{ref}

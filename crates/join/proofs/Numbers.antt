@@ -8,8 +8,7 @@ use borrow.Author.Tests.{ltb-false}
 use lib.Dec.{ltb}
 use lib.ListN.{length}
 use Rattle.btor2_list.specs.Record.{stride}
-use Rattle.edges.specs.Edges.{edgeStride}
-use Rattle.edges.specs.Records.{dispatchStride}
+use Rattle.edges.specs.Edges.{edgeStride, dispatchStride}
 use Rattle.list_check.specs.Lines.{any}
 use Rattle.riscv.specs.Refusal.{first}
 use Rattle.riscv.proofs.First.{hit, miss}

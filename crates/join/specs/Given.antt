@@ -4,8 +4,8 @@ use mathlib.Core.Bool.{cond}
 use mathlib.Core.List.{List, [], _∷_}
 use lib.Dec.{eqb}
 use lib.ListN.{getD}
-use Rattle.edges.specs.Edges.{edgeStride}
-use Rattle.edges.specs.Records.{dispatchStride, recordsIn}
+use Rattle.edges.specs.Edges.{edgeStride, dispatchStride}
+use Rattle.btor2_list.specs.Records.{recordsIn}
 use Rattle.join.specs.Program.{Edge, Dispatch}
 
 -- an edge is four words: to, from, origin, condition; `to` is not looked at

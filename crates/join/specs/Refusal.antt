@@ -9,8 +9,7 @@ use Rattle.btor2.specs.declared.NodeType.the-variants.{Bit, Word}
 use Rattle.btor2.specs.Sort.{sortNumber}
 use Rattle.btor2_list.specs.Record.{stride}
 use Rattle.btor2_list.specs.Look.{lookAt}
-use Rattle.edges.specs.Edges.{edgeStride, branchOrigin, syscallOrigin}
-use Rattle.edges.specs.Records.{dispatchStride}
+use Rattle.edges.specs.Edges.{edgeStride, branchOrigin, syscallOrigin, dispatchStride}
 use Rattle.list_check.specs.Lines.{any}
 use Rattle.program.specs.Prog.{Prog}
 use Rattle.program.specs.Lines.{linesOf, placeAfter}

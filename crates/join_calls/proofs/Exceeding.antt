@@ -14,7 +14,7 @@ use Rattle.join.specs.Given.{edgeIn, edgesIn}
 use Rattle.join_calls.specs.declared.room.Left.{Left}
 use Rattle.join_calls.specs.Room.{edgeLines, edgesLines, zeroAfter, zeroAfterAll, dispatchLines, edgeExceeds, leftAfter, exceeding}
 use Rattle.edges.specs.Edges.{edgeStride}
-use Rattle.edges.proofs.Records.{records-next}
+use Rattle.btor2_list.proofs.Records.{records-next}
 
 -- a sum exceeds where its first part does, or where its second exceeds what the first leaves
 pub ltb-add : (a b c : ℕ) → ltb a (b + c) ≡ (ltb a b || ltb (a - b) c)

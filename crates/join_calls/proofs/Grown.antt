@@ -17,7 +17,7 @@ use Rattle.program.proofs.Result.{resultOf}
 use Rattle.control_flow.specs.ControlFlow.{Bits, Kernel, controlFlowFromAny, controlFlowFromRegular, controlFlowFromBranch, controlFlowFromEcall, controlFlowFromJalr}
 use Rattle.control_flow.specs.FlagName.{nameAt}
 use Rattle.join.specs.Program.{Edge, Dispatch, edgeName, namesOf, nextsOf, fromEdge, joinEdges, joinDispatches, joinAddress}
-use Rattle.edges.specs.Records.{recordsIn}
+use Rattle.btor2_list.specs.Records.{recordsIn}
 use Rattle.join.specs.Given.{dispatchesIn, dynamicFor}
 use Rattle.join.specs.Refusal.{JoinLent, JoinInput, edgesOf, dispatchesOf, flagOf, zeroIn, bitsIn, kernelIn, joinProgram, joinLineCount, joinRoomOut}
 use Rattle.join.specs.declared.JoinHeld.{JoinHeld}

@@ -7,7 +7,7 @@ use native.Mathlib.Omega.{arith}
 use lib.Dec.{eqb}
 use lib.ListN.{getD, drop}
 use lib.Seq.{getD-drop}
-use Rattle.edges.proofs.Records.{records-next, records-none}
+use Rattle.btor2_list.proofs.Records.{records-next, records-none}
 use Rattle.join.specs.Given.{noFlag, flagStride, flagIn, flagsIn, flagFor}
 
 pub flag-next : (n k : ℕ) (ws : List ℕ) (a : ℕ) → k < n

@@ -6,8 +6,8 @@ use mathlib.Core.List.{List}
 use lib.ListN.{length, getD, drop}
 use lib.Seq.{drop-cons}
 use Rattle.list_check.specs.Lines.{any}
-use Rattle.edges.specs.Records.{recordsIn}
-use Rattle.edges.proofs.Records.{records-next, records-none}
+use Rattle.btor2_list.specs.Records.{recordsIn}
+use Rattle.btor2_list.proofs.Records.{records-next, records-none}
 
 module _ {A : Type 0} (stride : ℕ) (read : List ℕ → A) (out : A → Bool) (n k : ℕ) (ws : List ℕ) {all : Bool} (left : any out (recordsIn stride read (n - k) (drop (k * stride) ws)) ≡ all) where
   abbrev rest : Bool

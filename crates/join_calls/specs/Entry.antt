@@ -6,8 +6,7 @@ use lib.Dec.{eqb, ltb}
 use lib.ListN.{length}
 use Rattle.btor2_list.specs.Record.{stride}
 use Rattle.builder.specs.declared.Tally.{Tally}
-use Rattle.edges.specs.Edges.{edgeStride}
-use Rattle.edges.specs.Records.{dispatchStride}
+use Rattle.edges.specs.Edges.{edgeStride, dispatchStride}
 use Rattle.btor2_list.specs.Limits.{mostLines, mostNid}
 use Rattle.control_flow.specs.declared.Kernel.{Kernel}
 use Rattle.state_words.specs.Words.{stateIn}

@@ -7,7 +7,7 @@ use native.Mathlib.Omega.{arith}
 use lib.ListN.{length, getD, take, drop}
 use lib.Seq.{sets, sets-eq, take-suc, length-take-le}
 use Rattle.edges.specs.Edges.{edgeStride}
-use Rattle.edges.specs.Records.{recordsIn}
+use Rattle.btor2_list.specs.Records.{recordsIn}
 use Rattle.text.proofs.Laws.{sets-append}
 use Rattle.join.specs.Program.{Edge}
 use Rattle.join.specs.Given.{edgesIn}

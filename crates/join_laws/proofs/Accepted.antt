@@ -40,7 +40,7 @@ use Rattle.meaning.proofs.Behind.{inside}
 use Rattle.roles_kept.proofs.Views.{operators-length, numbered-operators, map-append, look-is}
 use Rattle.roles_kept.proofs.RoleSets.{Fit, fit-given, given-fit, fit-node}
 use Rattle.join.specs.Program.{Edge, Dispatch, joinAddress}
-use Rattle.edges.specs.Records.{recordsIn}
+use Rattle.btor2_list.specs.Records.{recordsIn}
 use Rattle.list_check.specs.Lines.{any}
 use Rattle.join.specs.Given.{dynamicCount, dynamicsIn, dynamicFor, noFlag}
 use Rattle.control_flow.specs.Listed.{Listed, listed, appendListed}

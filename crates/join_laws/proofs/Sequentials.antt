@@ -10,7 +10,7 @@ use lib.ListN.{length}
 use lib.Seq.{sets, length-sets}
 use Rattle.btor2.specs.Op.{Op}
 use Rattle.btor2_list.proofs.Stored.{below, above}
-use Rattle.edges.specs.Records.{putRecord}
+use Rattle.btor2_list.specs.Records.{putRecord}
 use Rattle.program.specs.Prog.{Prog, done, line, exec}
 use Rattle.builder.specs.Append.{append}
 use Rattle.lowering_laws.specs.Elsewhere.{Elsewhere}

@@ -16,8 +16,7 @@ use Rattle.riscv.specs.declared.Instruction.{Instruction}
 use Rattle.lowering_refusals.specs.declared.State.{State}
 use Rattle.lowering_refusals.specs.Refusal.{needs, roomOf, roomOut}
 use Rattle.lowering.specs.Lowering.{Lent, Answer, countsAfter, roomIn}
-use Rattle.edges.specs.Edges.{edgeStride}
-use Rattle.edges.specs.Records.{dispatchStride}
+use Rattle.edges.specs.Edges.{edgeStride, dispatchStride}
 use Rattle.listing_bytes.specs.Step.{emptied, parsedStep, step}
 use Rattle.listing_bytes.specs.Storage.{listingLines, longestName, mostEdges, mostDispatches, startLent}
 use Rattle.listing_bytes.specs.Listing.{steps, reached}

@@ -3,8 +3,7 @@
 use Prim.Native.Nat.{ℕ, _*_}
 use lib.ListN.{replicate}
 use Rattle.btor2_list.specs.Record.{stride}
-use Rattle.edges.specs.Edges.{edgeStride}
-use Rattle.edges.specs.Records.{dispatchStride}
+use Rattle.edges.specs.Edges.{edgeStride, dispatchStride}
 use Rattle.listing_start.specs.Start.{startIn}
 use Rattle.lowering.specs.Lowering.{Lent, lent}
 

@@ -5,7 +5,7 @@ use mathlib.Core.List.{List, [], _∷_}
 use lib.Dec.{eqb, ltb}
 use lib.ListN.{length, getD}
 use Rattle.btor2.specs.declared.NodeRef.{NodeRef}
-use Rattle.edges.specs.Records.{recordsIn}
+use Rattle.btor2_list.specs.Records.{recordsIn}
 use Rattle.riscv.specs.declared.Instruction.{Instruction}
 use Rattle.lowering_refusals.specs.declared.State.{State}
 use Rattle.lowering.specs.Lowering.{Lent, lowering}

@@ -11,8 +11,8 @@ use Rattle.program.specs.Prog.{Prog, Run, exec}
 use Rattle.builder.specs.Append.{Store, at, append}
 use Rattle.instruction_class.specs.declared.Class.{Class}
 use Rattle.instruction_class.specs.Class.{class, hasBad, hasDispatch}
-use Rattle.edges.specs.Records.{putRecord, dispatchStride}
-use Rattle.edges.specs.Edges.{edgesAfter}
+use Rattle.btor2_list.specs.Records.{putRecord}
+use Rattle.edges.specs.Edges.{dispatchStride, edgesAfter}
 use Rattle.models.specs.Places as P
 use Rattle.riscv.specs.declared.Instruction.{Instruction}
 use Rattle.riscv.specs.Kind.{kindAt}

@@ -7,7 +7,7 @@ use native.Mathlib.Omega.{arith}
 use borrow.Author.Tests.{eq-eqb, ne-eqb}
 use lib.Dec.{eqb}
 use lib.ListN.{length, drop}
-use Rattle.edges.proofs.Records.{records-none}
+use Rattle.btor2_list.proofs.Records.{records-none}
 use Rattle.lowering.specs.Lowering.{Lent}
 use Rattle.lowering.specs.Words.{Given}
 use Rattle.lowering.specs.All.{LowerCall, callWords, callIn, callsIn, GivenAll, givenAll}

@@ -12,7 +12,7 @@ use Rattle.btor2.specs.declared.NodeRef.{NodeRef}
 use Rattle.builder.specs.Append.{Store, at, append}
 use Rattle.program.specs.Prog.{Run, exec}
 use Rattle.edges.specs.Edges.{edge, edgeCount, edgesAfter}
-use Rattle.edges.specs.Records.{putRecord}
+use Rattle.btor2_list.specs.Records.{putRecord}
 use Rattle.instruction_class.specs.declared.Class.{Class}
 use Rattle.instruction_class.specs.declared.Class.the-variants.{Plain, Access, Addition, Branch, Jump, Indirect, Call}
 use Rattle.instruction_class.specs.Class.{class}

@@ -10,8 +10,7 @@ use Rattle.btor2_list.specs.Limits.{mostLines, mostNid}
 use Rattle.btor2_list.specs.Record.{stride}
 use Rattle.btor2_list.specs.Look.{lookAt}
 use Rattle.builder.specs.declared.Tally.{Tally}
-use Rattle.edges.specs.Edges.{edgeStride, edgeCount}
-use Rattle.edges.specs.Records.{dispatchStride}
+use Rattle.edges.specs.Edges.{edgeStride, edgeCount, dispatchStride}
 use Rattle.instruction_class.specs.Class.{class, lineCount, needsFlag, hasBad, hasDispatch}
 use Rattle.riscv.specs.declared.Instruction.{Instruction}
 use Rattle.riscv.specs.Kind.{Kind, kindAt}

@@ -13,7 +13,7 @@ use Rattle.btor2_list.specs.declared.Looked.the-variants.{Outside, NoValue, Val
 use Rattle.btor2_list.specs.Record.{stride, holds, lineAt}
 use Rattle.btor2_list.specs.Node.{opOf}
 use Rattle.btor2_list.specs.Look.{seenAs, lookAt}
-use Rattle.sort_check.specs.Inside.{markAt}
+use Rattle.sort_check.specs.Marks.{markAt}
 
 abbrev pub sortSeen : Looked → MaybeSort
 sortSeen Outside = NoSort

@@ -20,7 +20,7 @@ use Rattle.btor2_list.specs.View.{view}
 use Rattle.list_check.specs.Lines.{ops, opAt, some}
 use Rattle.list_check.proofs.Formed.{said, op-at, ops-length}
 use Rattle.list_check.proofs.Some.{some-same}
-use Rattle.sort_check.specs.Inside.{markAt}
+use Rattle.sort_check.specs.Marks.{markAt}
 
 -- ---- one more line
 

@@ -23,7 +23,7 @@ ghost use Rattle.btor2_list.specs.Record.{stride, holds, lineAt};
 ghost use Rattle.btor2_list.specs.Node.{opOf, noName};
 ghost use Rattle.line_operator.specs.Operator.{opFrom};
 ghost use Rattle.sort_check.specs.Broken.{sortBrokenWords};
-ghost use Rattle.sort_check.specs.Inside.{markAt};
+ghost use Rattle.sort_check.specs.Marks.{markAt};
 
 // 12: some line breaks the sort rule. True where the words do not hold as many lines.
 pub fn sort_broken(list: &[u64], lines: usize) -> bool
@@ -52,7 +52,7 @@ fn line_breaks(list: &[u64], i: usize) -> bool
 }
 
 // The rule of line i, which says `o`.
-fn meets_rule(list: &[u64], i: usize, o: Operator) -> bool
+pub fn meets_rule(list: &[u64], i: usize, o: Operator) -> bool
     ensures { λ r. ⌜ r ≡ rule (mapOp (markAt (now (list .entry)) i) (opFrom o)) ⌝ }
 {
     match o {
@@ -170,7 +170,7 @@ fn both(s: NodeType, x: MaybeSort, t: NodeType, y: MaybeSort) -> bool
 }
 
 // A value line before line i, of sort s.
-fn is_of(list: &[u64], i: usize, s: NodeType, place: NodeRef) -> bool
+pub fn is_of(list: &[u64], i: usize, s: NodeType, place: NodeRef) -> bool
     ensures { λ r. ⌜ r ≡ is s (markAt (now (list .entry)) i (place .0)) ⌝ }
 {
     of_sort(s, value_at(list, i, place))
@@ -185,7 +185,7 @@ fn of_sort(s: NodeType, m: MaybeSort) -> bool
     }
 }
 
-fn same(s: NodeType, t: NodeType) -> bool
+pub fn same(s: NodeType, t: NodeType) -> bool
     ensures { λ r. ⌜ r ≡ sameSort s t ⌝ }
 {
     get_sort(s) == get_sort(t)

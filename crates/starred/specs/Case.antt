@@ -10,8 +10,7 @@ use Rattle.btor2.specs.Value as B
 use Rattle.btor2.specs.Value.{Env}
 use Rattle.btor2_list.specs.View.{view}
 use Rattle.list_check.specs.Lines.{ops}
-use Rattle.edges.specs.Edges.{edgeStride}
-use Rattle.edges.specs.Records.{dispatchStride}
+use Rattle.edges.specs.Edges.{edgeStride, dispatchStride}
 use Rattle.riscv.specs.declared.Instruction.{Instruction}
 use Rattle.riscv.specs.Kind as K
 use Rattle.riscv.specs.Kind.{Kind}

@@ -1,5 +1,5 @@
-//! Lowering RV64 instructions to BTOR2 lines and joining their edges into flags: safe calls of libhost.a. The layout of lines, edges,
-//! dispatches, bads, flags and the state's words stands in host/lanthanumbat.h.
+//! Lowering RV64 instructions to BTOR2 lines, joining their edges into flags and evaluating lines on given values: safe calls of libhost.a. The
+//! layout of lines, edges, dispatches, bads, flags, the state's words and the records of values stands in host/lanthanumbat.h.
 
 mod ffi {
     extern "C" {
@@ -33,6 +33,11 @@ mod ffi {
             edges: *const u64, edges_words: usize, dispatches: *const u64, dispatches_words: usize, bads: *const u64, bads_words: usize,
             state: *const u64, state_words: usize,
         ) -> u64;
+        #[rustfmt::skip]
+        pub fn lanthanumbat_evaluate(
+            list: *const u64, list_words: usize, lines: usize, values: *const u64, values_words: usize,
+            memory: *const u64, memory_words: usize, asked: usize, value: *mut u64, visits: *mut u64,
+        ) -> u64;
     }
 }
 
@@ -60,18 +65,24 @@ pub const NO_FLAG: usize = usize::MAX;
 /// The most lines that a list holds.
 pub const MOST_LINES: usize = 1_048_576;
 
-/// The words of a line, an edge, a dispatch, a flag, the state and a call.
+/// The most lines of a list that is evaluated, and the most visits.
+pub const BENCH_LINES: usize = 4096;
+pub const MOST_VISITS: u64 = 100_000;
+
+/// The words of a line, an edge, a dispatch, a flag, the state, a call, and the records of a value and of a memory's word.
 pub const LINE: usize = 4;
 pub const EDGE: usize = 4;
 pub const DISPATCH: usize = 2;
 pub const FLAG: usize = 2;
 pub const STATE: usize = 85;
 pub const CALL: usize = 7;
+pub const VALUE: usize = 2;
+pub const CELL: usize = 3;
 
 /// How many dynamic flags there are: those of x1 to x31.
 pub const DYNAMICS: usize = 31;
 
-/// The number of a refusal, 1 to 16.
+/// The number of a refusal, 1 to 19.
 #[derive(Clone, Copy, Debug, PartialEq, Eq)]
 pub struct Refusal(pub u64);
 
@@ -213,4 +224,33 @@ impl Lent<'_> {
         refused(number)?;
         Ok(written as usize)
     }
+}
+
+/// What states and inputs are: a place and a value each, and a place, an address and a word each. The first for a place, or for a place and an
+/// address, counts; a missing one is 0.
+#[derive(Clone, Copy, Debug, Default)]
+pub struct Given<'a> {
+    pub values: &'a [[u64; VALUE]],
+    pub memory: &'a [[u64; CELL]],
+}
+
+/// What a line comes to, and the visits that it took.
+#[derive(Clone, Copy, Debug, PartialEq, Eq)]
+pub struct Evaluated {
+    pub value: u64,
+    pub visits: u64,
+}
+
+/// Evaluates the line at a place of a list of `lines` lines, at most [`BENCH_LINES`].
+pub fn evaluate(list: &[u64], lines: usize, given: Given, asked: usize) -> Result<Evaluated, Refusal> {
+    let (values, memory) = (given.values.as_flattened(), given.memory.as_flattened());
+    let (mut value, mut visits) = (0, 0);
+    #[rustfmt::skip]
+    let number = unsafe {
+        ffi::lanthanumbat_evaluate(
+            list.as_ptr(), list.len(), lines, values.as_ptr(), values.len(), memory.as_ptr(), memory.len(), asked, &mut value, &mut visits,
+        )
+    };
+    refused(number)?;
+    Ok(Evaluated { value, visits })
 }

@@ -7,7 +7,7 @@ use denote.Ref.{now}
 use lib.ListN.{length, drop}
 use Rattle.lowering.specs.Lowering.{lent}
 use Rattle.lowering.specs.Words.{given}
-use Rattle.edges.proofs.Records.{records-next}
+use Rattle.btor2_list.proofs.Records.{records-next}
 use Rattle.lowering.specs.All.{callWords, callIn, callsIn}
 use Rattle.lowering_calls.specs.Known.{wordsOn, wordsAll}
 use Rattle.lowering_calls.proofs.Steps.{from-none, ends, stops, goes-on}

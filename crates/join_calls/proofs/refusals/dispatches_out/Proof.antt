@@ -8,7 +8,7 @@ use denote.Ref.{now}
 use lib.ListN.{drop}
 use lib.Seq.{getD-drop}
 use Rattle.list_check.specs.Lines.{any}
-use Rattle.edges.specs.Records.{dispatchStride}
+use Rattle.edges.specs.Edges.{dispatchStride}
 use Rattle.join.specs.Given.{dispatchIn, dispatchesIn}
 use Rattle.join.specs.Refusal.{dispatchOut}
 use Rattle.join_calls.proofs.Tests.{found, passed, ended}

@@ -9,7 +9,7 @@ use denote.Ref.{now}
 use lib.ListN.{length, getD, drop}
 use lib.Seq.{getD-drop}
 use Rattle.list_check.specs.Lines.{any}
-use Rattle.edges.specs.Records.{recordsIn}
+use Rattle.btor2_list.specs.Records.{recordsIn}
 use Rattle.join.specs.Given.{noFlag, dynamicCount, dynamicsIn}
 use Rattle.join.specs.Refusal.{bitOut}
 use Rattle.join_calls.proofs.Tests.{found, passed, ended, getD-within}

@@ -10,7 +10,7 @@ use lib.ListN.{drop}
 use Rattle.edges.specs.Edges.{edgeStride}
 use Rattle.join.specs.Given.{edgeIn, edgesIn, flagsIn, flagFor}
 use Rattle.join_calls.specs.Room.{exceeding}
-use Rattle.edges.proofs.Records.{records-none}
+use Rattle.btor2_list.proofs.Records.{records-none}
 use Rattle.join_calls.proofs.Exceeding.{exceeding-on, exceeding-none}
 use Rattle.join_calls.proofs.room.room_exceeded.Statement.{statement}
 use Rattle.join_calls.proofs.room.room_exceeded.Tie as tie

@@ -14,7 +14,3 @@ putRecord stride ws p record-words = cond (ltb p (length ws / stride)) (sets ws 
 unfoldable pub recordsIn : {A : Type 0} → ℕ → (List ℕ → A) → ℕ → List ℕ → List A
 recordsIn stride read zero ws = []
 recordsIn stride read (suc n) ws = read ws ∷ recordsIn stride read n (drop stride ws)
-
--- the words of a dispatch: register and address
-abbrev pub dispatchStride : ℕ
-dispatchStride = 2

@@ -1,4 +1,4 @@
--- What only private contracts cite.
+-- What an earlier line is to a line that names it, from the records: what the sort rule looks at (btor2/specs/SortRule).
 use Prim.Native.Nat.{ℕ, _*_}
 use mathlib.Core.Bool.{cond, _&&_}
 use mathlib.Core.List.{List}

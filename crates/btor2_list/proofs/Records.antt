@@ -7,7 +7,7 @@ use native.Mathlib.Nat.{suc-mul}
 use native.Mathlib.Omega.{arith}
 use lib.ListN.{drop}
 use lib.Seq.{drop-drop}
-use Rattle.edges.specs.Records.{recordsIn}
+use Rattle.btor2_list.specs.Records.{recordsIn}
 
 module _ {A : Type 0} (stride : ℕ) (read : List ℕ → A) (n k : ℕ) (ws : List ℕ) where
   pub records-next : k < n

@@ -1,0 +1,97 @@
+-- The answer, by the tests before the first visit. Assumes nothing.
+use Prim.Native.Nat.{ℕ, _*_, _/_, _<_, _≤_}
+use mathlib.Core.Path.{_≡_, refl, sym, _∙_, ap}
+use mathlib.Core.Bool.{Bool, true, false, cond, _&&_, _||_, true≢false}
+use mathlib.Core.Bool as B
+use mathlib.Core.List.{List}
+use native.Mathlib.Omega.{arith}
+use lib.Dec.{ltb}
+use lib.ListN.{length, getD, List·getD-eq-default}
+use borrow.Author.Tests.{lt-ltb, le-ltb, ltb-false}
+use Rattle.bitvec.proofs.Base.{by-le}
+use Rattle.btor2.specs.declared.NodeType.{NodeType}
+use Rattle.btor2.specs.declared.NodeType.the-variants.{Bit, Word}
+use Rattle.btor2.specs.declared.MaybeSort.{MaybeSort}
+use Rattle.btor2.specs.declared.MaybeSort.the-variants.{Sort, NoSort}
+use Rattle.btor2.specs.Op.{unknown, carried}
+use Rattle.btor2.specs.SortRule.{hasSort}
+use Rattle.btor2_list.specs.declared.Looked.{Looked}
+use Rattle.btor2_list.specs.declared.Looked.the-variants.{Outside}
+use Rattle.btor2_list.specs.Record.{stride, lineAt}
+use Rattle.btor2_list.specs.View.{view}
+use Rattle.btor2_list.specs.Look.{seenAs, lookAt}
+use Rattle.list_check.specs.Lines.{ops, some}
+use Rattle.list_check.proofs.Formed.{op-at, ops-length, neither}
+use Rattle.operand_check.specs.Broken.{lineBroken, brokenWords}
+use Rattle.sort_check.proofs.Marks.{sortSeen}
+use Rattle.given_values.specs.Given.{givenEnv}
+use Rattle.evaluation.specs.declared.Evaluated.{Evaluated}
+use Rattle.evaluation.specs.declared.Evaluated.the-variants.{Refused, Value}
+use Rattle.evaluation.specs.Evaluation.{mostVisits, Looks, looksOf, noLooks, looks, looksAt, unfit, evaluatedWithin, evaluated}
+use Rattle.evaluation_calls.specs.Inside.{saidAt, allOf, numFrom, Visitable}
+use Rattle.evaluation_calls.proofs.Walked.{kept}
+
+seen-sort : (nid : ℕ) (m : MaybeSort) → sortSeen (seenAs nid m) ≡ m
+seen-sort nid (Sort s) = refl
+seen-sort nid NoSort = refl
+
+-- a lookup in the list tells the sort of the line
+looked-sort : (ws : List ℕ) (n p : ℕ) → n ≤ length ws / stride → carried (getD (ops (view ws n)) p unknown) ≡ sortSeen (lookAt ws n p)
+unfolding carried
+looked-sort ws n p room =
+    by-le n p
+    (λ h.
+    let past : length (ops (view ws n)) ≤ p = rw (ops-length ws n) h in
+    ap carried (List·getD-eq-default (ops (view ws n)) unknown past) ∙ rw (le-ltb p n h))
+    (λ h.
+    let there : p < length ws / stride = omega arith in
+    ap carried (op-at ws n p h) ∙ rw (lt-ltb p n h, lt-ltb p (length ws / stride) there) (sym (seen-sort (lineAt ws (p * stride) .nid .0) (carried (saidAt ws p)))))
+
+module _ (ws : List ℕ) (n : ℕ) (vs ms : List ℕ) (p : ℕ) where
+  pub refused-19 : unfit ws n p ≡ true → Refused 19 ≡ evaluated ws n vs ms p
+  unfolding evaluatedWithin
+  refused-19 e = rw e
+
+  pub too-long : 4096 < n → unfit ws n p ≡ true
+  unfolding unfit
+  too-long h = rw (lt-ltb 4096 n h)
+
+  pub not-well : brokenWords ws n ≡ true → unfit ws n p ≡ true
+  unfolding unfit
+  not-well h = go (ltb 4096 n) (brokenWords ws n) _ h
+    where
+      go : (a b c : Bool) → b ≡ true → (a || (b || c)) ≡ true
+      go true b c e = refl
+      go false b c e = rw e
+
+  -- the words hold the lines, where none is broken
+  pub room : brokenWords ws n ≡ false → n ≤ length ws / stride
+  room e = ltb-false (length ws / stride) n (neither (ltb (length ws / stride) n) (some n (lineBroken (ops (view ws n)))) e .0)
+
+  asked-for : (m : MaybeSort) → sortSeen (lookAt ws n p) ≡ m → n ≤ 4096 → brokenWords ws n ≡ false → unfit ws n p ≡ B.not (hasSort Bit m || hasSort Word m)
+  unfolding unfit
+  asked-for m s l b = rw (le-ltb 4096 n l, b, looked-sort ws n p (room b), s)
+
+  pub asked-other : (m : MaybeSort) → sortSeen (lookAt ws n p) ≡ m → n ≤ 4096 → brokenWords ws n ≡ false → (hasSort Bit m || hasSort Word m) ≡ false → unfit ws n p ≡ true
+  asked-other m s l b h = asked-for m s l b ∙ ap B.not h
+
+  below : (m : MaybeSort) → sortSeen (lookAt ws n p) ≡ m → brokenWords ws n ≡ false → (hasSort Bit m || hasSort Word m) ≡ true → p < n
+  below m s b h =
+      by-le n p
+      (λ l.
+      let z : sortSeen (lookAt ws n p) ≡ NoSort = rw (le-ltb p n l) in
+      absurd (true≢false (sym h ∙ ap (λ (x : MaybeSort). hasSort Bit x || hasSort Word x) (sym s ∙ z))))
+      (λ l. l)
+
+  pub to-ask : (test : MaybeSort → Bool) (m : MaybeSort) → sortSeen (lookAt ws n p) ≡ m → brokenWords ws n ≡ false → (hasSort Bit m || hasSort Word m) ≡ true → test m ≡ true → Visitable test ws p
+  to-ask test m s b h t =
+      let l = below m s b h in
+      let r = room b in
+      record { held = omega arith; sort = ap test (sym (ap carried (op-at ws n p l)) ∙ looked-sort ws n p r ∙ s) ∙ t }
+
+  pub answered : (R : Evaluated) (m : MaybeSort) → sortSeen (lookAt ws n p) ≡ m → n ≤ 4096 → brokenWords ws n ≡ false → (hasSort Bit m || hasSort Word m) ≡ true
+      → R ≡ numFrom ws vs ms p 0 → R ≡ evaluated ws n vs ms p
+  unfolding evaluatedWithin numFrom looks
+  answered R m s l b h e =
+      rw (asked-for m s l b ∙ ap B.not h)
+      (e ∙ ap (λ (k : Looks). k .num 0) (kept Looks noLooks (looksOf mostVisits (givenEnv vs ms)) ws (length ws / stride) n p (below m s b h) (room b)))

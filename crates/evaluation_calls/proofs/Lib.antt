@@ -1,0 +1,5 @@
+pub mod Walked
+pub mod Parts
+pub mod Entered
+pub mod Steps
+pub mod Answer

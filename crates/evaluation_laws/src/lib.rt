@@ -1,0 +1,1 @@
+// What the answers of the bench mean: specs/Laws; no code.
