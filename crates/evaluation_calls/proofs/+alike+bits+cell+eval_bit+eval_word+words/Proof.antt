@@ -11,7 +11,7 @@ use Rattle.btor2.specs.SortRule.{hasSort}
 use Rattle.line_operator.specs.declared.Operator.{Operator}
 use Rattle.line_operator.specs.Operator.{opFrom}
 use Rattle.evaluation_calls.specs.Inside.{numFrom, wordSort}
-use Rattle.evaluation_calls.proofs.Steps.{refused, valued, choice-refused, chosen, passed, cover-refused, covered, uncovered, pair-refused, pair-values, first-refused, second-refused, two-values, Entered, counted, enter, num-refused, cell-refused, from-word, sort-ite, sort-and, sort-or, sort-not, call, calls, call-alike, calls-bits, calls-words, of-const, of-read, of-bin, of-eq, of-and, of-or, of-ite, of-not, of-ext, of-state, of-init, of-input, cell-write, cell-ite, cell-state, cell-init, cell-input, turned-word, turned-bit, no-word, no-bit, no-cell}
+use Rattle.evaluation_calls.proofs.Steps.{refused, valued, choice-refused, chosen, passed, cover-refused, covered, uncovered, pair-refused, pair-values, first-refused, second-refused, two-values, Entered, num-refused, cell-refused, counted, enter, from-word, calls-bits, calls-words, sort-ite, sort-and, sort-or, sort-not, call, calls, call-alike, of-const, of-read, of-bin, of-eq, of-and, of-or, of-ite, of-not, of-ext, of-state, of-init, of-input, cell-write, cell-ite, cell-state, cell-init, cell-input, turned-word, turned-bit, no-word, no-bit, no-cell}
 use borrow.Fn.Kinds.{In}
 use borrow.Fn.PlainCycle.{Measures, is, falls, and}
 use Rattle.evaluation_calls.proofs.alike.Reads as alike
