@@ -27,7 +27,7 @@ use Rattle.sort_check.proofs.Marks.{sortSeen}
 use Rattle.given_values.specs.Given.{givenEnv}
 use Rattle.evaluation.specs.declared.Evaluated.{Evaluated}
 use Rattle.evaluation.specs.declared.Evaluated.the-variants.{Refused, Value}
-use Rattle.evaluation.specs.Evaluation.{mostVisits, Looks, looksOf, noLooks, looks, looksAt, unfit, evaluatedWithin, evaluated}
+use Rattle.evaluation.specs.Evaluation.{benchLines, unfitAsked, mostVisits, Looks, looksOf, noLooks, looks, looksAt, unfit, evaluatedWithin, evaluated}
 use Rattle.evaluation_calls.specs.Inside.{saidAt, allOf, numFrom, Visitable}
 use Rattle.evaluation_calls.proofs.Walked.{kept}
 
@@ -48,17 +48,17 @@ looked-sort ws n p room =
     ap carried (op-at ws n p h) ∙ rw (lt-ltb p n h, lt-ltb p (length ws / stride) there) (sym (seen-sort (lineAt ws (p * stride) .nid .0) (carried (saidAt ws p)))))
 
 module _ (ws : List ℕ) (n : ℕ) (vs ms : List ℕ) (p : ℕ) where
-  pub refused-19 : unfit ws n p ≡ true → Refused 19 ≡ evaluated ws n vs ms p
+  pub refused-unfit : unfit ws n p ≡ true → Refused unfitAsked ≡ evaluated ws n vs ms p
   unfolding evaluatedWithin
-  refused-19 e = rw e
+  refused-unfit e = rw e
 
-  pub too-long : 4096 < n → unfit ws n p ≡ true
+  pub too-long : benchLines < n → unfit ws n p ≡ true
   unfolding unfit
-  too-long h = rw (lt-ltb 4096 n h)
+  too-long h = rw (lt-ltb benchLines n h)
 
   pub not-well : brokenWords ws n ≡ true → unfit ws n p ≡ true
   unfolding unfit
-  not-well h = go (ltb 4096 n) (brokenWords ws n) _ h
+  not-well h = go (ltb benchLines n) (brokenWords ws n) _ h
     where
       go : (a b c : Bool) → b ≡ true → (a || (b || c)) ≡ true
       go true b c e = refl
@@ -68,11 +68,11 @@ module _ (ws : List ℕ) (n : ℕ) (vs ms : List ℕ) (p : ℕ) where
   pub room : brokenWords ws n ≡ false → n ≤ length ws / stride
   room e = ltb-false (length ws / stride) n (neither (ltb (length ws / stride) n) (some n (lineBroken (ops (view ws n)))) e .0)
 
-  asked-for : (m : MaybeSort) → sortSeen (lookAt ws n p) ≡ m → n ≤ 4096 → brokenWords ws n ≡ false → unfit ws n p ≡ B.not (hasSort Bit m || hasSort Word m)
+  asked-for : (m : MaybeSort) → sortSeen (lookAt ws n p) ≡ m → n ≤ benchLines → brokenWords ws n ≡ false → unfit ws n p ≡ B.not (hasSort Bit m || hasSort Word m)
   unfolding unfit
-  asked-for m s l b = rw (le-ltb 4096 n l, b, looked-sort ws n p (room b), s)
+  asked-for m s l b = rw (le-ltb benchLines n l, b, looked-sort ws n p (room b), s)
 
-  pub asked-other : (m : MaybeSort) → sortSeen (lookAt ws n p) ≡ m → n ≤ 4096 → brokenWords ws n ≡ false → (hasSort Bit m || hasSort Word m) ≡ false → unfit ws n p ≡ true
+  pub asked-other : (m : MaybeSort) → sortSeen (lookAt ws n p) ≡ m → n ≤ benchLines → brokenWords ws n ≡ false → (hasSort Bit m || hasSort Word m) ≡ false → unfit ws n p ≡ true
   asked-other m s l b h = asked-for m s l b ∙ ap B.not h
 
   below : (m : MaybeSort) → sortSeen (lookAt ws n p) ≡ m → brokenWords ws n ≡ false → (hasSort Bit m || hasSort Word m) ≡ true → p < n
@@ -89,7 +89,7 @@ module _ (ws : List ℕ) (n : ℕ) (vs ms : List ℕ) (p : ℕ) where
       let r = room b in
       record { held = omega arith; sort = ap test (sym (ap carried (op-at ws n p l)) ∙ looked-sort ws n p r ∙ s) ∙ t }
 
-  pub answered : (R : Evaluated) (m : MaybeSort) → sortSeen (lookAt ws n p) ≡ m → n ≤ 4096 → brokenWords ws n ≡ false → (hasSort Bit m || hasSort Word m) ≡ true
+  pub answered : (R : Evaluated) (m : MaybeSort) → sortSeen (lookAt ws n p) ≡ m → n ≤ benchLines → brokenWords ws n ≡ false → (hasSort Bit m || hasSort Word m) ≡ true
       → R ≡ numFrom ws vs ms p 0 → R ≡ evaluated ws n vs ms p
   unfolding evaluatedWithin numFrom looks
   answered R m s l b h e =

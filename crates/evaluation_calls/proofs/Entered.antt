@@ -23,7 +23,7 @@ use Rattle.sort_check.specs.Marks.{markAt}
 use Rattle.given_values.specs.Given.{givenEnv}
 use Rattle.evaluation.specs.declared.Evaluated.{Evaluated}
 use Rattle.evaluation.specs.declared.Evaluated.the-variants.{Refused, Value}
-use Rattle.evaluation.specs.Evaluation.{mostVisits, Looks, lookOf, visit, looksOf, noLooks, looks, looksAt}
+use Rattle.evaluation.specs.Evaluation.{illSorted, tooManyVisits, mostVisits, Looks, lookOf, visit, looksOf, noLooks, looks, looksAt}
 use Rattle.evaluation_calls.specs.Inside.{saidAt, allOf, numFrom, cellFrom}
 use Rattle.evaluation_calls.proofs.Walked.{first, kept, at, long}
 use Rattle.evaluation_calls.proofs.Parts.{two, Parts, parts, earlier, state-earlier, mark-before, mark-after}
@@ -97,21 +97,21 @@ module _ (env : Env) (ws : List ℕ) where
         (parts (markAt ws p) (saidAt ws p) r)
 
     -- a visit past the mostVisits, one of a line that breaks the rule, and another
-    pub num-18 : (v : ℕ) → mostVisits ≤ v → looksAt mostVisits env (allOf ws) p .num v ≡ Refused 18
+    pub num-over : (v : ℕ) → mostVisits ≤ v → looksAt mostVisits env (allOf ws) p .num v ≡ Refused tooManyVisits
     unfolding looksOf
-    num-18 v l = ap (λ (k : Looks). k .num v) whole ∙ rw (le-ltb v mostVisits l)
+    num-over v l = ap (λ (k : Looks). k .num v) whole ∙ rw (le-ltb v mostVisits l)
 
-    pub cell-18 : (a v : ℕ) → mostVisits ≤ v → looksAt mostVisits env (allOf ws) p .cell a v ≡ Refused 18
+    pub cell-over : (a v : ℕ) → mostVisits ≤ v → looksAt mostVisits env (allOf ws) p .cell a v ≡ Refused tooManyVisits
     unfolding looksOf
-    cell-18 a v l = ap (λ (k : Looks). k .cell a v) whole ∙ rw (le-ltb v mostVisits l)
+    cell-over a v l = ap (λ (k : Looks). k .cell a v) whole ∙ rw (le-ltb v mostVisits l)
 
-    pub num-17 : (v : ℕ) → v < mostVisits → rule (mapOp (markAt ws p) (saidAt ws p)) ≡ false → looksAt mostVisits env (allOf ws) p .num v ≡ Refused 17
+    pub num-broken : (v : ℕ) → v < mostVisits → rule (mapOp (markAt ws p) (saidAt ws p)) ≡ false → looksAt mostVisits env (allOf ws) p .num v ≡ Refused illSorted
     unfolding looksOf
-    num-17 v l r = ap (λ (k : Looks). k .num v) whole ∙ rw (lt-ltb v mostVisits l, rules ∙ r)
+    num-broken v l r = ap (λ (k : Looks). k .num v) whole ∙ rw (lt-ltb v mostVisits l, rules ∙ r)
 
-    pub cell-17 : (a v : ℕ) → v < mostVisits → rule (mapOp (markAt ws p) (saidAt ws p)) ≡ false → looksAt mostVisits env (allOf ws) p .cell a v ≡ Refused 17
+    pub cell-broken : (a v : ℕ) → v < mostVisits → rule (mapOp (markAt ws p) (saidAt ws p)) ≡ false → looksAt mostVisits env (allOf ws) p .cell a v ≡ Refused illSorted
     unfolding looksOf
-    cell-17 a v l r = ap (λ (k : Looks). k .cell a v) whole ∙ rw (lt-ltb v mostVisits l, rules ∙ r)
+    cell-broken a v l r = ap (λ (k : Looks). k .cell a v) whole ∙ rw (lt-ltb v mostVisits l, rules ∙ r)
 
     pub num-in : (v : ℕ) → v < mostVisits → rule (mapOp (markAt ws p) (saidAt ws p)) ≡ true
         → looksAt mostVisits env (allOf ws) p .num v ≡ lookOf env p (mapOp (looksAt mostVisits env (allOf ws)) (saidAt ws p)) .num (v + 1)

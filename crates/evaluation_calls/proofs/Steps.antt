@@ -36,7 +36,7 @@ use Rattle.evaluation_calls.specs.declared.Pair.the-variants.{Values, Re
 use Rattle.evaluation.specs.Evaluation.{illSorted, tooManyVisits, mostVisits, afterValue, one, both, lookOf, looksAt}
 use Rattle.evaluation_calls.specs.Inside.{saidAt, allOf, visitRefusal, numFrom, cellFrom, pairOf, wordSort, Visitable, EqRight}
 use Rattle.evaluation_calls.proofs.Parts.{Parts, parts, has, eq-bits, eq-words, earlier, asked}
-use Rattle.evaluation_calls.proofs.Entered.{num-18, cell-18, num-17, cell-17, num-in, cell-in}
+use Rattle.evaluation_calls.proofs.Entered.{num-over, cell-over, num-broken, cell-broken, num-in, cell-in}
 
 -- ---- one after the other
 
@@ -165,16 +165,16 @@ module _ (ws vs ms : List ℕ) (p v : ℕ) (held : p < length ws / stride) (r : 
   unfolding numFrom
   num-refused n =
       by-visit
-      (λ l e. ap Refused e ∙ sym (num-18 (givenEnv vs ms) ws p held v l))
-      (λ l b e. ap Refused e ∙ sym (num-17 (givenEnv vs ms) ws p held v l b))
+      (λ l e. ap Refused e ∙ sym (num-over (givenEnv vs ms) ws p held v l))
+      (λ l b e. ap Refused e ∙ sym (num-broken (givenEnv vs ms) ws p held v l b))
       (λ l b e. absurd (n e))
 
   pub cell-refused : (a : ℕ) → (r ≡ 0 → ⊥) → Refused r ≡ cellFrom ws vs ms p a v
   unfolding cellFrom
   cell-refused a n =
       by-visit
-      (λ l e. ap Refused e ∙ sym (cell-18 (givenEnv vs ms) ws p held a v l))
-      (λ l b e. ap Refused e ∙ sym (cell-17 (givenEnv vs ms) ws p held a v l b))
+      (λ l e. ap Refused e ∙ sym (cell-over (givenEnv vs ms) ws p held a v l))
+      (λ l b e. ap Refused e ∙ sym (cell-broken (givenEnv vs ms) ws p held a v l b))
       (λ l b e. absurd (n e))
 
   -- a visit that is counted
@@ -409,7 +409,7 @@ module _ {ws vs ms : List ℕ} {p v : ℕ} where
 
   -- ---- the kinds that are left
 
-  pub no-word : (o : Operator) → OneOf (2 ∷ 6 ∷ 12 ∷ 14 ∷ 15 ∷ []) (tagOf the-type o) → Entered ws vs ms p v (opFrom o) → wordSort (carried (saidAt ws p)) ≡ true → Refused 17 ≡ numFrom ws vs ms p v
+  pub no-word : (o : Operator) → OneOf (2 ∷ 6 ∷ 12 ∷ 14 ∷ 15 ∷ []) (tagOf the-type o) → Entered ws vs ms p v (opFrom o) → wordSort (carried (saidAt ws p)) ≡ true → Refused illSorted ≡ numFrom ws vs ms p v
   unfolding carried
   no-word (Write m a w) h e t = absurd (true≢false (sym (of-sort wordSort e t)))
   no-word (Next s a b) h e t = absurd (true≢false (sym (of-sort wordSort e t)))
@@ -428,7 +428,7 @@ module _ {ws vs ms : List ℕ} {p v : ℕ} where
   no-word (StateInit s a m) h e t = absurd (miss (2 ∷ 6 ∷ 12 ∷ 14 ∷ 15 ∷ []) 11 tt h)
   no-word (Input s m) h e t = absurd (miss (2 ∷ 6 ∷ 12 ∷ 14 ∷ 15 ∷ []) 13 tt h)
 
-  pub no-bit : (o : Operator) → OneOf (1 ∷ 2 ∷ 4 ∷ 12 ∷ 14 ∷ 15 ∷ []) (tagOf the-type o) → Entered ws vs ms p v (opFrom o) → hasSort Bit (carried (saidAt ws p)) ≡ true → Refused 17 ≡ numFrom ws vs ms p v
+  pub no-bit : (o : Operator) → OneOf (1 ∷ 2 ∷ 4 ∷ 12 ∷ 14 ∷ 15 ∷ []) (tagOf the-type o) → Entered ws vs ms p v (opFrom o) → hasSort Bit (carried (saidAt ws p)) ≡ true → Refused illSorted ≡ numFrom ws vs ms p v
   unfolding carried
   no-bit (Write m a w) h e t = absurd (true≢false (sym (of-sort (hasSort Bit) e t)))
   no-bit (Next s a b) h e t = absurd (true≢false (sym (of-sort (hasSort Bit) e t)))
@@ -448,7 +448,7 @@ module _ {ws vs ms : List ℕ} {p v : ℕ} where
   no-bit (Input s m) h e t = absurd (miss (1 ∷ 2 ∷ 4 ∷ 12 ∷ 14 ∷ 15 ∷ []) 13 tt h)
 
   pub no-cell : (o : Operator) (a : ℕ) → OneOf (0 ∷ 1 ∷ 3 ∷ 4 ∷ 6 ∷ 7 ∷ 8 ∷ 9 ∷ 12 ∷ 14 ∷ 15 ∷ []) (tagOf the-type o) → Entered ws vs ms p v (opFrom o) → hasSort Memory (carried (saidAt ws p)) ≡ true
-      → Refused 17 ≡ cellFrom ws vs ms p a v
+      → Refused illSorted ≡ cellFrom ws vs ms p a v
   unfolding carried
   no-cell (Const s n) a h e t = absurd (true≢false (sym (e .rules) ∙ ap (λ (r : NodeType). B.not (sameSort r Memory)) (memory s (of-sort (hasSort Memory) e t))))
   no-cell (Read m b) a h e t = absurd (true≢false (sym (of-sort (hasSort Memory) e t)))

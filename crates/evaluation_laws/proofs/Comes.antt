@@ -25,7 +25,7 @@ use Rattle.list_check.specs.Lines.{ops}
 use Rattle.given_values.specs.Given.{givenEnv}
 use Rattle.evaluation.specs.declared.Evaluated.{Evaluated}
 use Rattle.evaluation.specs.declared.Evaluated.the-variants.{Refused, Value}
-use Rattle.evaluation.specs.Evaluation.{afterValue, Looks, one, both, lookOf, visit, looksOf, noLooks, looks, looksAt, unfit, evaluatedWithin}
+use Rattle.evaluation.specs.Evaluation.{afterValue, Looks, one, both, lookOf, tooManyVisits, visit, looksOf, noLooks, looks, looksAt, unfit, evaluatedWithin}
 use Rattle.evaluation_laws.specs.Laws.{valueGiven, ValueComes, AnswersWhereRight}
 use Rattle.evaluation_laws.proofs.Law.{ite-num, ite-mem, gives-the-value}
 
@@ -33,7 +33,7 @@ use Rattle.evaluation_laws.proofs.Law.{ite-num, ite-mem, gives-the-valu
 
 pub record Takes (limit : ℕ) (f : ℕ → Evaluated) (x k : ℕ) : Type 0 where
   pub comes : (n : ℕ) → n + k ≤ limit → f n ≡ Value x (n + k)
-  pub over : (n : ℕ) → n ≤ limit → limit < n + k → f n ≡ Refused 18
+  pub over : (n : ℕ) → n ≤ limit → limit < n + k → f n ≡ Refused tooManyVisits
 
 module _ {limit : ℕ} where
   -- a value that is there

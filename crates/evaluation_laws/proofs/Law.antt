@@ -21,7 +21,7 @@ use Rattle.list_check.specs.Lines.{ops}
 use Rattle.given_values.specs.Given.{givenEnv}
 use Rattle.evaluation.specs.declared.Evaluated.{Evaluated}
 use Rattle.evaluation.specs.declared.Evaluated.the-variants.{Refused, Value}
-use Rattle.evaluation.specs.Evaluation.{afterValue, Look, Looks, one, both, lookOf, visit, looksOf, noLooks, looks, looksAt, unfit, evaluatedWithin}
+use Rattle.evaluation.specs.Evaluation.{afterValue, Look, Looks, one, both, lookOf, illSorted, tooManyVisits, unfitAsked, visit, looksOf, noLooks, looks, looksAt, unfit, evaluatedWithin}
 use Rattle.evaluation_laws.specs.Laws.{IsTheValue, GivesTheValue}
 
 -- a value that is found is the number, or the word of the array, and its visits are within the limit
@@ -43,11 +43,11 @@ came (Value y j) f x k e then = then y j refl e
 came (Refused r) f x k e then = never r x k e
 
 visited : {P : Type 0} (limit : ℕ) (right : Bool) (f : ℕ → Evaluated) (n x k : ℕ) → visit limit right f n ≡ Value x k → (n < limit → f (n + 1) ≡ Value x k → P) → P
-visited {P} limit right f n x k e then = by-le limit n (λ h. never 18 x k (rw (le-ltb n limit h) at e)) (λ h. go right h (rw (lt-ltb n limit h) at e))
+visited {P} limit right f n x k e then = by-le limit n (λ h. never tooManyVisits x k (rw (le-ltb n limit h) at e)) (λ h. go right h (rw (lt-ltb n limit h) at e))
   where
-    go : (r : Bool) → n < limit → cond r (f (n + 1)) (Refused 17) ≡ Value x k → P
+    go : (r : Bool) → n < limit → cond r (f (n + 1)) (Refused illSorted) ≡ Value x k → P
     go true h w = then h w
-    go false h w = never 17 x k w
+    go false h w = never illSorted x k w
 
 -- one value, and two, one after the other
 single : {limit : ℕ} (f : ℕ → ℕ) {a : Looks} {u : Val.Value} → Told limit a u → (n x k : ℕ) → n ≤ limit → one f a .num n ≡ Value x k → (x ≡ f (u .num)) × (k ≤ limit)
@@ -206,6 +206,6 @@ pub gives-the-value : GivesTheValue
 unfolding evaluatedWithin
 gives-the-value limit ws n vs ms p x k = go (unfit ws n p)
   where
-    go : (t : Bool) → cond t (Refused 19) (looksAt limit (givenEnv vs ms) (ops (view ws n)) p .num 0) ≡ Value x k → IsTheValue limit ws n vs ms p x k
-    go true e = never 19 x k e
+    go : (t : Bool) → cond t (Refused unfitAsked) (looksAt limit (givenEnv vs ms) (ops (view ws n)) p .num 0) ≡ Value x k → IsTheValue limit ws n vs ms p x k
+    go true e = never unfitAsked x k e
     go false e = let t = looks-value limit (givenEnv vs ms) (ops (view ws n)) p .num 0 x k (omega arith) e in record { same = t .0; within = t .1 }

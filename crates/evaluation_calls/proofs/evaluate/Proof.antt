@@ -13,7 +13,7 @@ use Rattle.btor2.specs.declared.MaybeSort.the-variants.{Sort, NoSort}
 use Rattle.btor2.specs.SortRule.{hasSort}
 use Rattle.sort_check.proofs.Marks.{sortSeen}
 use Rattle.evaluation_calls.specs.Inside.{wordSort}
-use Rattle.evaluation_calls.proofs.Answer.{refused-19, too-long, not-well, asked-other, to-ask, answered}
+use Rattle.evaluation_calls.proofs.Answer.{refused-unfit, too-long, not-well, asked-other, to-ask, answered}
 use borrow.Author.Needs.{needs}
 use Rattle.evaluation_calls.proofs.evaluate.Statement.{statement}
 use Rattle.evaluation_calls.proofs.evaluate.Tie as tie
@@ -34,12 +34,12 @@ neither-sort Input6Byte h = refl
 neither-sort Input7Byte h = refl
 
 returns : tie.Need-returns
-returns c = let a = c .before .before .before .before .args in refused-19 (now (a .list)) (a .lines) (now (a .values)) (now (a .memory)) (a .asked .0) (too-long (now (a .list)) (a .lines) (now (a .values)) (now (a .memory)) (a .asked .0) (c .if1 .taken))
+returns c = let a = c .before .before .before .before .args in refused-unfit (now (a .list)) (a .lines) (now (a .values)) (now (a .memory)) (a .asked .0) (too-long (now (a .list)) (a .lines) (now (a .values)) (now (a .memory)) (a .asked .0) (c .if1 .taken))
 
 returns-2 : tie.Need-returns-2
 returns-2 c =
     let a = c .before .before .before .before .before .before .args in
-    refused-19 (now (a .list)) (a .lines) (now (a .values)) (now (a .memory)) (a .asked .0) (not-well (now (a .list)) (a .lines) (now (a .values)) (now (a .memory)) (a .asked .0) (sym (c .before .broken .ensures) ∙ c .if2 .taken))
+    refused-unfit (now (a .list)) (a .lines) (now (a .values)) (now (a .memory)) (a .asked .0) (not-well (now (a .list)) (a .lines) (now (a .values)) (now (a .memory)) (a .asked .0) (sym (c .before .broken .ensures) ∙ c .if2 .taken))
 
 -- after the lookup: the list is no longer than it may be, and not broken
 eval-bit-requires : tie.Need-eval-bit-requires
@@ -61,14 +61,14 @@ returns-3 c =
     let l = c .before .before in
     let a = l .before .before .before .before .before .before .before .args in
     let sort = ap sortSeen (sym (l .look .ensures) ∙ c .enum-told .given .1) in
-    refused-19 (now (a .list)) (a .lines) (now (a .values)) (now (a .memory)) (a .asked .0) (asked-other (now (a .list)) (a .lines) (now (a .values)) (now (a .memory)) (a .asked .0) NoSort sort (l .before .before .before .if1 .left) (sym (l .before .before .broken .ensures) ∙ l .before .if2 .left) refl)
+    refused-unfit (now (a .list)) (a .lines) (now (a .values)) (now (a .memory)) (a .asked .0) (asked-other (now (a .list)) (a .lines) (now (a .values)) (now (a .memory)) (a .asked .0) NoSort sort (l .before .before .before .if1 .left) (sym (l .before .before .broken .ensures) ∙ l .before .if2 .left) refl)
 
 returns-4 : tie.Need-returns-4
 returns-4 c =
     let l = c .before .before in
     let a = l .before .before .before .before .before .before .before .args in
     let sort = ap sortSeen (sym (l .look .ensures) ∙ c .enum-told2 .given .1) in
-    refused-19 (now (a .list)) (a .lines) (now (a .values)) (now (a .memory)) (a .asked .0) (asked-other (now (a .list)) (a .lines) (now (a .values)) (now (a .memory)) (a .asked .0) NoSort sort (l .before .before .before .if1 .left) (sym (l .before .before .broken .ensures) ∙ l .before .if2 .left) refl)
+    refused-unfit (now (a .list)) (a .lines) (now (a .values)) (now (a .memory)) (a .asked .0) (asked-other (now (a .list)) (a .lines) (now (a .values)) (now (a .memory)) (a .asked .0) NoSort sort (l .before .before .before .if1 .left) (sym (l .before .before .broken .ensures) ∙ l .before .if2 .left) refl)
 
 returns-5 : tie.Need-returns-5
 returns-5 c =
@@ -90,7 +90,7 @@ returns-7 c =
     let a = l .before .before .before .before .before .before .before .args in
     let s = c .before .before .s .given .0 .1 .0 in
     let sort = ap sortSeen (sym (l .look .ensures) ∙ c .before .before .s .given .1) in
-    refused-19 (now (a .list)) (a .lines) (now (a .values)) (now (a .memory)) (a .asked .0)
+    refused-unfit (now (a .list)) (a .lines) (now (a .values)) (now (a .memory)) (a .asked .0)
     (asked-other (now (a .list)) (a .lines) (now (a .values)) (now (a .memory)) (a .asked .0) (Sort s) sort (l .before .before .before .if1 .left) (sym (l .before .before .broken .ensures) ∙ l .before .if2 .left) (neither-sort s (c .match2 .keys3)))
 
 pub evaluate-spec : {M : Type 1} → statement M
