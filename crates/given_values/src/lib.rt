@@ -1,10 +1,11 @@
 // What the lent records give for a state or an input.
 use btor2::NodeRef;
 use btor2::NodeType;
+use btor2::bitsize;
 ghost use mathlib.Core.Path.{_≡_};
 ghost use mathlib.Core.Bool.{_&&_};
 ghost use lib.Dec.{eqb};
-ghost use Prim.Native.Nat.{_%_, _^_};
+ghost use Prim.Native.Nat.{_%_, _^_, _≤_};
 ghost use Rattle.btor2.specs.Sort.{width};
 ghost use Rattle.given_values.specs.Given.{givenValue, givenCell};
 
@@ -14,28 +15,25 @@ const VALUE: usize = 2;
 // The words of a record of memory: node, address, word.
 const CELL: usize = 3;
 
+// The bits of a word.
+const WORD_BITS: u64 = 64;
+
 // The value of a state or an input of a sort: the first record's for its place, modulo 2 to the width. A memory, which has no width, has 0.
 pub fn given(values: &[u64], place: NodeRef, s: NodeType) -> u64
     ensures { λ r. ⌜ r ≡ givenValue (now (values .entry)) (place .0) % 2 ^ width s ⌝ }
 {
-    narrow(first_value(values, place), s)
+    narrow(first_value(values, place), bitsize(s))
 }
 
-fn narrow(x: u64, s: NodeType) -> u64
-    ensures { λ r. ⌜ r ≡ x % 2 ^ width s ⌝ }
+// Modulo 2 to this many bits.
+fn narrow(x: u64, bits: u64) -> u64
+    requires { ⌜ bits ≤ 64 ⌝ }
+    ensures { λ r. ⌜ r ≡ x % 2 ^ bits ⌝ }
 {
-    match s {
-        NodeType::Bit => x % 2,
-        NodeType::Word => x,
-        NodeType::Memory => 0,
-        NodeType::Input1Byte => x % 256,
-        NodeType::Input2Byte => x % 65_536,
-        NodeType::Input3Byte => x % 16_777_216,
-        NodeType::Input4Byte => x % 4_294_967_296,
-        NodeType::Input5Byte => x % 1_099_511_627_776,
-        NodeType::Input6Byte => x % 281_474_976_710_656,
-        NodeType::Input7Byte => x % 72_057_594_037_927_936,
+    if bits < WORD_BITS {
+        return x % (1 << bits);
     }
+    x
 }
 
 fn first_value(values: &[u64], place: NodeRef) -> u64
