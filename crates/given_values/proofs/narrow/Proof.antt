@@ -11,10 +11,10 @@ power : (bits : ℕ) → bits < 64 → 1 * 2 ^ bits % 2 ^ 64 ≡ 2 ^ bits
 power bits h = let l : 2 ^ bits < 2 ^ 64 = pow-lt h in omega arith
 
 rem-result : tie.Need-rem-result
-rem-result c = let bits = c .before .args .bits in let e = power bits (c .if1 .taken) in let p = pow-pos bits in omega arith
+rem-result c = let bits = c .before .args .bits in let e = power bits (omega arith) in let p = pow-pos bits in omega arith
 
 returns : tie.Need-returns
-returns c = ap (λ (n : ℕ). c .before .args .x % n) (power (c .before .args .bits) (c .if1 .taken))
+returns c = ap (λ (n : ℕ). c .before .args .x % n) (power (c .before .args .bits) (omega arith))
 
 returns-2 : tie.Need-returns-2
 returns-2 c = let all : c .before .args .bits ≡ 64 = omega arith in rw all (omega arith)
