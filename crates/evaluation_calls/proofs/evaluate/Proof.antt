@@ -4,6 +4,7 @@ use mathlib.Core.Path.{_≡_, refl, sym, _∙_, ap}
 use mathlib.Core.Bool.{false, _||_}
 use mathlib.Core.List.{List, [], _∷_}
 use denote.Ref.{now}
+use native.Mathlib.Omega.{arith}
 use denote.Enum.Declared.{tagOf}
 use types.Run.{OneOf, miss}
 use Rattle.btor2.specs.declared.NodeType.{NodeType}
@@ -34,7 +35,7 @@ neither-sort Input6Byte h = refl
 neither-sort Input7Byte h = refl
 
 returns : tie.Need-returns
-returns c = let a = c .before .before .before .before .args in refused-unfit (now (a .list)) (a .lines) (now (a .values)) (now (a .memory)) (a .asked .0) (too-long (now (a .list)) (a .lines) (now (a .values)) (now (a .memory)) (a .asked .0) (c .if1 .taken))
+returns c = let a = c .before .before .before .before .args in refused-unfit (now (a .list)) (a .lines) (now (a .values)) (now (a .memory)) (a .asked .0) (too-long (now (a .list)) (a .lines) (now (a .values)) (now (a .memory)) (a .asked .0) (omega arith))
 
 returns-2 : tie.Need-returns-2
 returns-2 c =

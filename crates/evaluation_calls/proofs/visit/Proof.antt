@@ -24,14 +24,14 @@ ruled ws p o s e = ap (λ (x : Op ℕ). rule (mapOp (markAt ws p) x)) (sym s) �
 returns : tie.Need-returns
 returns c =
     let q = c .refused-visit .ensures in
-    (rw (le-ltb _ mostVisits (c .before .if1 .taken)) q, λ z. absurd (omega arith))
+    (rw (le-ltb (c .before .before .before .args .visits) mostVisits (omega arith)) q, λ z. absurd (omega arith))
 
 returns-2 : tie.Need-returns-2
 returns-2 c =
     let m = c .before in
     let o = m .before in
     let a = o .before .before .before .args in
-    (rw (lt-ltb _ mostVisits (o .before .if1 .left), ruled (now (a .list)) (a .place .0) (o .operator-at .result) (o .operator-at .ensures) (m .meets-rule .ensures) ∙ c .if2 .taken), λ z. o .operator-at .ensures)
+    (rw (lt-ltb (a .visits) mostVisits (omega arith), ruled (now (a .list)) (a .place .0) (o .operator-at .result) (o .operator-at .ensures) (m .meets-rule .ensures) ∙ c .if2 .taken), λ z. o .operator-at .ensures)
 
 returns-3 : tie.Need-returns-3
 returns-3 c =
@@ -40,7 +40,7 @@ returns-3 c =
     let o = m .before in
     let a = o .before .before .before .args in
     let q = c .refused-visit2 .ensures in
-    (rw (lt-ltb _ mostVisits (o .before .if1 .left), ruled (now (a .list)) (a .place .0) (o .operator-at .result) (o .operator-at .ensures) (m .meets-rule .ensures) ∙ e .if2 .left) q, λ z. absurd (omega arith))
+    (rw (lt-ltb (a .visits) mostVisits (omega arith), ruled (now (a .list)) (a .place .0) (o .operator-at .result) (o .operator-at .ensures) (m .meets-rule .ensures) ∙ e .if2 .left) q, λ z. absurd (omega arith))
 
 pub visit-spec : {M : Type 1} → statement M
 visit-spec =
