@@ -1,5 +1,6 @@
 pub mod Composed
 pub mod Base
+pub mod Truth
 pub mod Below
 pub mod LastArm
 pub mod Logic

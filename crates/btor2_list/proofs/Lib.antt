@@ -5,3 +5,4 @@ pub mod View
 pub mod Fitting
 pub mod Seen
 pub mod Records
+pub mod Got

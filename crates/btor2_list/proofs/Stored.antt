@@ -1,7 +1,7 @@
 -- A record that is put at a place is read there, and every other word is as it was. Assumes nothing.
-use Prim.Native.Nat.{ℕ, zero, suc, _+_, _*_, _/_, _≤_, _<_}
+use Prim.Native.Nat.{ℕ, zero, suc, _+_, _*_, _≤_, _<_}
 use mathlib.Core.Path.{_≡_, refl, sym, ap, _∙_}
-use mathlib.Core.Bool.{Bool, true, false, cond, _||_, true≢false}
+use mathlib.Core.Bool.{Bool, true, false, cond, _||_}
 use mathlib.Core.Logic.{_⊎_, inl, inr, ⊎-elim}
 use mathlib.Core.List.{List, [], _∷_}
 use native.Mathlib.Omega.{arith}
@@ -10,6 +10,7 @@ use borrow.Author.Tests.{ltb-true, eqb-true, lt-ltb, le-ltb, ne-eqb}
 use lib.Dec.{eqb}
 use lib.ListN.{length, getD, set, length-set}
 use lib.Seq.{sets, length-sets, getD-set-same, getD-set-other}
+use Rattle.bitvec.proofs.Truth.{neither}
 use Rattle.bitvec.proofs.Base.{by-le}
 use Rattle.btor2.specs.declared.NodeType.{NodeType}
 use Rattle.btor2.specs.declared.MaybeSort.{MaybeSort}
@@ -17,7 +18,7 @@ use Rattle.btor2.specs.declared.MaybeSort.the-variants.{NoSort}
 use Rattle.btor2.specs.Sort.{sortNumber, firstNumbered, sorts, sortNumbered}
 use Rattle.btor2.proofs.Sort.{number-small}
 use Rattle.btor2_list.specs.declared.Line.{Line}
-use Rattle.btor2_list.specs.Record.{stride, kindIn, sortIn, areaIn, initIn, nidIn, saturated, mostInByte, mostInNid, markOfInit, headOf, hasName, words, word, lineAt, holds, putAt}
+use Rattle.btor2_list.specs.Record.{stride, kindIn, sortIn, areaIn, initIn, nidIn, saturated, mostInByte, mostInNid, markOfInit, headOf, hasName, words, word, recordAt, holds, putAt, capacity, wordsFor}
 use Rattle.btor2_list.specs.Node.{node, operatorAt, operatorsByKind, opOf, nodeOf}
 use Rattle.btor2_list.proofs.NoKind.{outside}
 
@@ -41,9 +42,9 @@ within (a ∷ vs) l i (suc k) h r =
 -- ---- a record
 
 -- two records whose words agree are equal
-pub same-words : (ws vs : List ℕ) (b d : ℕ) → ((k : ℕ) → k < stride → word ws b k ≡ word vs d k) → lineAt ws b ≡ lineAt vs d
-unfolding lineAt
-same-words ws vs b d h = rw (h 0 (omega arith), h 1 (omega arith), h 2 (omega arith), h 3 (omega arith))
+pub same-words : (ws vs : List ℕ) (p q : ℕ) → ((k : ℕ) → k < stride → word ws p k ≡ word vs q k) → recordAt ws p ≡ recordAt vs q
+unfolding recordAt
+same-words ws vs p q h = rw (h 0 (omega arith), h 1 (omega arith), h 2 (omega arith), h 3 (omega arith))
 
 -- ---- a record is read as the line that it was written from, where its identifier and the area of its name fit their fields. Numbers of
 -- kinds and sorts that do not fit are read as others that name no kind and no sort either, and the fields that share words are not both used.
@@ -89,10 +90,6 @@ either : (a b : Bool) → (a || b) ≡ true → (a ≡ true) ⊎ (b ≡ true)
 either true b e = inl refl
 either false b e = inr e
 
-neither : (a b : Bool) → (a || b) ≡ false → (a ≡ false) × (b ≡ false)
-neither true b e = absurd (true≢false e)
-neither false b e = (refl, e)
-
 module _ (l : Line) (fits : Fits l) where
   -- the record that is read, with these numbers for its kind and its sort
   abbrev read : ℕ → ℕ → Line
@@ -107,8 +104,8 @@ module _ (l : Line) (fits : Fits l) where
     name = record { area = l .name .area; at = cond (hasName (l .kind)) (l .name .at) (l .op2 .0); len = cond (hasName (l .kind)) (l .name .len) (l .op3 .0) };
   }
 
-  reads : lineAt (words l) 0 ≡ read (saturated mostInByte (l .kind)) (saturated mostInByte (l .sort))
-  unfolding lineAt
+  reads : recordAt (words l) 0 ≡ read (saturated mostInByte (l .kind)) (saturated mostInByte (l .sort))
+  unfolding recordAt
   reads =
       let back = head-back (l .kind) (l .sort) (l .name .area) (cond (eqb (l .kind) 19) (l .imm) 0) (l .nid .0) in
       rw (back .kind, back .sort, back .area, back .init, back .nid, kept mostInByte (l .name .area) (fits .area), kept mostInNid (l .nid .0) (fits .nid))
@@ -149,7 +146,7 @@ module _ (l : Line) (fits : Fits l) where
   of-no-kind : 256 ≤ l .kind → nodeOf (read (saturated mostInByte (l .kind)) (l .sort)) ≡ nodeOf l
   of-no-kind h = rw (lt-ltb mostInByte (l .kind) h, outside l (λ _. omega arith), outside (read mostInByte (l .sort)) (λ _. omega arith))
 
-  own-node : nodeOf (lineAt (words l) 0) ≡ nodeOf l
+  own-node : nodeOf (recordAt (words l) 0) ≡ nodeOf l
   own-node =
       ap nodeOf reads
       ∙ of-a-sort (saturated mostInByte (l .kind))
@@ -161,30 +158,30 @@ module _ (ws : List ℕ) (p : ℕ) (l : Line) where
   pub put-length : length (putAt ws p l) ≡ length ws
   put-length = go (holds ws p)
     where
-      go : (t : Bool) → length (cond t (sets ws (p * stride) (words l)) ws) ≡ length ws
-      go true = length-sets ws (p * stride) (words l)
+      go : (t : Bool) → length (cond t (sets ws (wordsFor p) (words l)) ws) ≡ length ws
+      go true = length-sets ws (wordsFor p) (words l)
       go false = refl
 
-  pub put-elsewhere-below : (k : ℕ) → k < p * stride → getD (putAt ws p l) k 0 ≡ getD ws k 0
+  pub put-elsewhere-below : (k : ℕ) → k < wordsFor p → getD (putAt ws p l) k 0 ≡ getD ws k 0
   put-elsewhere-below k h = go (holds ws p)
     where
-      go : (t : Bool) → getD (cond t (sets ws (p * stride) (words l)) ws) k 0 ≡ getD ws k 0
-      go true = below (words l) ws (p * stride) k h
+      go : (t : Bool) → getD (cond t (sets ws (wordsFor p) (words l)) ws) k 0 ≡ getD ws k 0
+      go true = below (words l) ws (wordsFor p) k h
       go false = refl
 
-  pub put-elsewhere-above : (k : ℕ) → p * stride + stride ≤ k → getD (putAt ws p l) k 0 ≡ getD ws k 0
+  pub put-elsewhere-above : (k : ℕ) → wordsFor p + stride ≤ k → getD (putAt ws p l) k 0 ≡ getD ws k 0
   put-elsewhere-above k h = go (holds ws p)
     where
-      go : (t : Bool) → getD (cond t (sets ws (p * stride) (words l)) ws) k 0 ≡ getD ws k 0
-      go true = above (words l) ws (p * stride) k h
+      go : (t : Bool) → getD (cond t (sets ws (wordsFor p) (words l)) ws) k 0 ≡ getD ws k 0
+      go true = above (words l) ws (wordsFor p) k h
       go false = refl
 
-  pub put-node : holds ws p ≡ true → Fits l → nodeOf (lineAt (putAt ws p l) (p * stride)) ≡ nodeOf l
+  pub put-node : holds ws p ≡ true → Fits l → nodeOf (recordAt (putAt ws p l) p) ≡ nodeOf l
   put-node there fits =
-      let room : p < length ws / stride = ltb-true _ _ there in
+      let room : p < capacity (length ws) = ltb-true _ _ there in
       rw there
-      (ap nodeOf (same-words (sets ws (p * stride) (words l)) (words l) (p * stride) 0 (λ k h. rw zero-add (within (words l) ws (p * stride) k h (omega arith))))
+      (ap nodeOf (same-words (sets ws (wordsFor p) (words l)) (words l) p 0 (λ k h. rw zero-add (within (words l) ws (wordsFor p) k h (omega arith))))
       ∙ own-node l fits)
 
-  pub put-other : (q : ℕ) → q < p → lineAt (putAt ws p l) (q * stride) ≡ lineAt ws (q * stride)
-  put-other q h = same-words (putAt ws p l) ws (q * stride) (q * stride) (λ k r. put-elsewhere-below (q * stride + k) (omega arith))
+  pub put-other : (q : ℕ) → q < p → recordAt (putAt ws p l) q ≡ recordAt ws q
+  put-other q h = same-words (putAt ws p l) ws q q (λ k r. put-elsewhere-below (wordsFor q + k) (omega arith))

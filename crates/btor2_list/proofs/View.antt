@@ -1,6 +1,6 @@
 -- The view of the lent words: a put after the last line adds that line and changes no other, and reading what was written gives it
 -- back. Assumes nothing.
-use Prim.Native.Nat.{ℕ, zero, suc, _+_, _*_, _≤_, _<_}
+use Prim.Native.Nat.{ℕ, zero, suc, _+_, _≤_, _<_}
 use mathlib.Core.Path.{_≡_, refl, _∙_}
 use mathlib.Core.Bool.{true}
 use mathlib.Core.List.{List, [], _∷_, _++_}
@@ -13,7 +13,7 @@ use lib.Seq.{getD-append-add}
 use Rattle.btor2.specs.Op.{add, sub, mul, udiv, sdiv, urem, sll, srl, ult, Op, const, read, write, bin, uext, ite, eq, and, or, not, state, stateInit, next, input, bad, unknown}
 use Rattle.btor2.proofs.Sort.{sort-back}
 use Rattle.btor2_list.specs.declared.Line.{Line}
-use Rattle.btor2_list.specs.Record.{stride, lineAt, holds, putAt}
+use Rattle.btor2_list.specs.Record.{recordAt, holds, putAt}
 use Rattle.btor2_list.specs.Node.{Node, node, lineOf, opOf, nodeOf}
 use Rattle.btor2_list.specs.View.{view}
 use Rattle.btor2_list.proofs.Stored.{Fits, put-node, put-other}
@@ -54,12 +54,12 @@ unfolding view
 view-length ws zero = refl
 view-length ws (suc n) = length-append (view ws n) _ ∙ rw (view-length ws n) (omega arith)
 
-pub view-at : (ws : List ℕ) (n : ℕ) (d : Node) (p : ℕ) → p < n → getD (view ws n) p d ≡ nodeOf (lineAt ws (p * stride))
+pub view-at : (ws : List ℕ) (n : ℕ) (d : Node) (p : ℕ) → p < n → getD (view ws n) p d ≡ nodeOf (recordAt ws p)
 unfolding view
 view-at ws zero d p h = absurd (omega arith)
 view-at ws (suc n) d p h =
     ⊎-elim
-    (λ e. rw e (rw (view-length ws n, add-zero) at (getD-append-add (view ws n) (nodeOf (lineAt ws (n * stride)) ∷ []) 0 d)))
+    (λ e. rw e (rw (view-length ws n, add-zero) at (getD-append-add (view ws n) (nodeOf (recordAt ws n) ∷ []) 0 d)))
     (λ l. List·getD-append (view ws n) _ d p (rw (view-length ws n) l) ∙ view-at ws n d p l)
     (eq-or-lt-of-le {n = p} {m = n} (omega arith))
 

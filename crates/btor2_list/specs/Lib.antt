@@ -1,4 +1,5 @@
 pub mod Limits
+pub mod Kinds
 pub mod Record
 pub mod Node
 pub mod View

@@ -1,5 +1,5 @@
 -- What a place is to a line that names it.
-use Prim.Native.Nat.{ℕ, _*_}
+use Prim.Native.Nat.{ℕ}
 use mathlib.Core.Bool.{cond, _&&_}
 use mathlib.Core.List.{List}
 use lib.Dec.{ltb}
@@ -8,7 +8,7 @@ use Rattle.btor2.specs.declared.MaybeSort.the-variants.{Sort, NoSort}
 use Rattle.btor2.specs.Op.{carried}
 use Rattle.btor2_list.specs.declared.Looked.{Looked}
 use Rattle.btor2_list.specs.declared.Looked.the-variants.{Outside, NoValue, Value}
-use Rattle.btor2_list.specs.Record.{stride, lineAt, holds}
+use Rattle.btor2_list.specs.Record.{recordAt, holds}
 use Rattle.btor2_list.specs.Node.{Node, nodeOf}
 
 abbrev pub seenAs : ℕ → MaybeSort → Looked
@@ -21,4 +21,4 @@ seen n = seenAs (n .nid) (carried (n .op))
 
 -- of a list of n lines: a place from n on, or past the lent words, is outside
 abbrev pub lookAt : List ℕ → ℕ → ℕ → Looked
-lookAt ws n p = cond (ltb p n && holds ws p) (seen (nodeOf (lineAt ws (p * stride)))) Outside
+lookAt ws n p = cond (ltb p n && holds ws p) (seen (nodeOf (recordAt ws p))) Outside

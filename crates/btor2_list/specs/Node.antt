@@ -9,6 +9,7 @@ use Rattle.btor2.specs.declared.MaybeSort.{MaybeSort}
 use Rattle.btor2.specs.declared.MaybeSort.the-variants.{Sort, NoSort}
 use Rattle.btor2.specs.Sort.{sortNumber, sortNumbered}
 use Rattle.btor2.specs.Op.{Bin, add, sub, mul, udiv, sdiv, urem, sll, srl, ult, Op, const, read, write, bin, uext, ite, eq, and, or, not, state, stateInit, next, input, bad, unknown, binSort}
+use Rattle.btor2_list.specs.Kinds.{constKind, readKind, writeKind, addKind, subKind, mulKind, udivKind, sdivKind, uremKind, sllKind, srlKind, ultKind, uextKind, iteKind, eqKind, andKind, orKind, notKind, stateKind, nextKind, inputKind, badKind}
 use Rattle.btor2_list.specs.declared.Line.{Line}
 
 pub record Node : Type 0 where
@@ -36,38 +37,33 @@ row nid kind sort op1 op2 op3 imm name = record {
   name = name;
 }
 
--- kinds are numbered from 1 in the order of `Node`
-
-abbrev pub stateKind : ℕ
-stateKind = 19
-
 abbrev pub binKind : Bin → ℕ
-binKind add = 4
-binKind sub = 5
-binKind mul = 6
-binKind udiv = 7
-binKind sdiv = 8
-binKind urem = 9
-binKind sll = 10
-binKind srl = 11
-binKind ult = 12
+binKind add = addKind
+binKind sub = subKind
+binKind mul = mulKind
+binKind udiv = udivKind
+binKind sdiv = sdivKind
+binKind urem = uremKind
+binKind sll = sllKind
+binKind srl = srlKind
+binKind ult = ultKind
 
 abbrev pub lineOf : ℕ → Op ℕ → Line
-lineOf nid (const s n) = row nid 1 (sortNumber s) 0 0 0 n noName
-lineOf nid (read m a) = row nid 2 2 m a 0 0 noName
-lineOf nid (write m a v) = row nid 3 3 m a v 0 noName
+lineOf nid (const s n) = row nid constKind (sortNumber s) 0 0 0 n noName
+lineOf nid (read m a) = row nid readKind 2 m a 0 0 noName
+lineOf nid (write m a v) = row nid writeKind 3 m a v 0 noName
 lineOf nid (bin o a b) = row nid (binKind o) (sortNumber (binSort o)) a b 0 0 noName
-lineOf nid (uext s a) = row nid 13 (sortNumber s) a 0 0 0 noName
-lineOf nid (ite s c a b) = row nid 14 (sortNumber s) c a b 0 noName
-lineOf nid (eq a b) = row nid 15 1 a b 0 0 noName
-lineOf nid (and s a b) = row nid 16 (sortNumber s) a b 0 0 noName
-lineOf nid (or s a b) = row nid 17 (sortNumber s) a b 0 0 noName
-lineOf nid (not s a) = row nid 18 (sortNumber s) a 0 0 0 noName
+lineOf nid (uext s a) = row nid uextKind (sortNumber s) a 0 0 0 noName
+lineOf nid (ite s c a b) = row nid iteKind (sortNumber s) c a b 0 noName
+lineOf nid (eq a b) = row nid eqKind 1 a b 0 0 noName
+lineOf nid (and s a b) = row nid andKind (sortNumber s) a b 0 0 noName
+lineOf nid (or s a b) = row nid orKind (sortNumber s) a b 0 0 noName
+lineOf nid (not s a) = row nid notKind (sortNumber s) a 0 0 0 noName
 lineOf nid (state s m) = row nid stateKind (sortNumber s) 0 0 0 0 m
 lineOf nid (stateInit s a m) = row nid stateKind (sortNumber s) a 0 0 1 m
-lineOf nid (next s a b) = row nid 20 (sortNumber s) a b 0 0 noName
-lineOf nid (input s m) = row nid 21 (sortNumber s) 0 0 0 0 m
-lineOf nid (bad a m) = row nid 22 0 a 0 0 0 m
+lineOf nid (next s a b) = row nid nextKind (sortNumber s) a b 0 0 noName
+lineOf nid (input s m) = row nid inputKind (sortNumber s) 0 0 0 0 m
+lineOf nid (bad a m) = row nid badKind 0 a 0 0 0 m
 lineOf nid unknown = row nid 0 0 0 0 0 0 noName
 
 -- ---- what a record is read as
@@ -114,7 +110,7 @@ operatorsByKind s l =
     ∷ []
 
 unfoldable pub opOf : Line → Op ℕ
-opOf l = operatorAt (operatorsByKind (sortNumbered (l .sort)) l) 1 (l .kind)
+opOf l = operatorAt (operatorsByKind (sortNumbered (l .sort)) l) constKind (l .kind)
 
 abbrev pub nodeOf : Line → Node
 nodeOf l = node (l .nid .0) (opOf l)

@@ -5,6 +5,7 @@ use mathlib.Core.List.{List, [], _∷_}
 use lib.Dec.{ltb, eqb}
 use lib.ListN.{length, getD}
 use lib.Seq.{sets}
+use Rattle.btor2_list.specs.Kinds.{constKind, stateKind, inputKind, badKind}
 use Rattle.btor2_list.specs.declared.Line.{Line}
 use Rattle.btor2_list.specs.declared.Found.{Found}
 use Rattle.btor2_list.specs.declared.Found.the-variants.{Line as at, Outside}
@@ -12,6 +13,14 @@ use Rattle.btor2_list.specs.declared.Found.the-variants.{Line as at, Out
 -- the words of one record
 abbrev pub stride : ℕ
 stride = 4
+
+-- how many records n words hold
+abbrev pub capacity : ℕ → ℕ
+capacity n = n / stride
+
+-- the words that n records take
+abbrev pub wordsFor : ℕ → ℕ
+wordsFor n = n * stride
 
 -- ---- the first word: a byte each for the kind, the sort, the name's area and the mark of a State's init, and four bytes for the identifier.
 -- A State has an init where its mark is not 0: we write 1, and a host may write any byte.
@@ -57,40 +66,43 @@ headOf kind sort area init nid =
 -- and the place and the length of their name stand there.
 
 abbrev pub hasName : ℕ → Bool
-hasName kind = eqb kind 19 || (eqb kind 21 || eqb kind 22)
+hasName kind = eqb kind stateKind || (eqb kind inputKind || eqb kind badKind)
 
 abbrev pub words : Line → List ℕ
 words l =
-    headOf (l .kind) (l .sort) (l .name .area) (cond (eqb (l .kind) 19) (l .imm) 0) (l .nid .0)
-    ∷ cond (eqb (l .kind) 1) (l .imm) (l .op1 .0)
+    headOf (l .kind) (l .sort) (l .name .area) (cond (eqb (l .kind) stateKind) (l .imm) 0) (l .nid .0)
+    ∷ cond (eqb (l .kind) constKind) (l .imm) (l .op1 .0)
     ∷ cond (hasName (l .kind)) (l .name .at) (l .op2 .0)
     ∷ cond (hasName (l .kind)) (l .name .len) (l .op3 .0)
     ∷ []
 
--- word k of the record whose first word is word b, and that record
+-- word k of the record at place p, and that record
 abbrev pub word : List ℕ → ℕ → ℕ → ℕ
-word ws b k = getD ws (b + k) 0
+word ws p k = getD ws (wordsFor p + k) 0
 
-unfoldable pub lineAt : List ℕ → ℕ → Line
-lineAt ws b = record {
-  nid = record { 0 = nidIn (word ws b 0) };
-  kind = kindIn (word ws b 0);
-  sort = sortIn (word ws b 0);
-  op1 = record { 0 = word ws b 1 };
-  op2 = record { 0 = word ws b 2 };
-  op3 = record { 0 = word ws b 3 };
-  imm = cond (eqb (kindIn (word ws b 0)) 19) (initIn (word ws b 0)) (word ws b 1);
-  name = record { area = areaIn (word ws b 0); at = word ws b 2; len = word ws b 3 };
+unfoldable pub recordAt : List ℕ → ℕ → Line
+recordAt ws p = record {
+  nid = record { 0 = nidIn (word ws p 0) };
+  kind = kindIn (word ws p 0);
+  sort = sortIn (word ws p 0);
+  op1 = record { 0 = word ws p 1 };
+  op2 = record { 0 = word ws p 2 };
+  op3 = record { 0 = word ws p 3 };
+  imm = cond (eqb (kindIn (word ws p 0)) stateKind) (initIn (word ws p 0)) (word ws p 1);
+  name = record { area = areaIn (word ws p 0); at = word ws p 2; len = word ws p 3 };
 }
 
 -- the words reach over the record at place p
 abbrev pub holds : List ℕ → ℕ → Bool
-holds ws p = ltb p (length ws / stride)
+holds ws p = ltb p (capacity (length ws))
 
 -- the words once a record is put at place p
 abbrev pub putAt : List ℕ → ℕ → Line → List ℕ
-putAt ws p l = cond (holds ws p) (sets ws (p * stride) (words l)) ws
+putAt ws p l = cond (holds ws p) (sets ws (wordsFor p) (words l)) ws
 
--- the record at place p
+-- the record at place p, and one field of it, 0 where there is none
 abbrev pub getAt : List ℕ → ℕ → Found
-getAt ws p = cond (holds ws p) (at (lineAt ws (p * stride))) Outside
+getAt ws p = cond (holds ws p) (at (recordAt ws p)) Outside
+
+abbrev pub fieldAt : (Line → ℕ) → List ℕ → ℕ → ℕ
+fieldAt field ws p = cond (holds ws p) (field (recordAt ws p)) 0

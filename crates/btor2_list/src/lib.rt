@@ -7,42 +7,40 @@ use btor2::NodeType;
 use btor2::sort_of;
 ghost use mathlib.Core.Path.{_≡_};
 ghost use mathlib.Core.Bool.{cond};
-ghost use Prim.Native.Nat.{_+_, _≤_};
+ghost use Prim.Native.Nat.{_+_, _≤_, _<_};
 ghost use lib.ListN.{length};
 ghost use lib.Seq.{sets};
 ghost use Rattle.btor2.specs.Op.{carried};
 ghost use Rattle.btor2_list.specs.declared.Line.{Line};
-ghost use Rattle.btor2_list.specs.Record.{saturated, headOf, hasName, words, lineAt, holds, putAt, getAt};
+ghost use Rattle.btor2_list.specs.Kinds.{uextKind};
+ghost use Rattle.btor2_list.specs.Record.{stride, capacity as capacityOf, saturated, headOf, hasName, words, recordAt, holds, putAt, getAt, fieldAt};
 ghost use Rattle.btor2_list.specs.Node.{opOf};
 ghost use Rattle.btor2_list.specs.Look.{lookAt};
+ghost use Rattle.btor2_list.specs.Limits.{linesOut, tallyOut};
 
-// The words of one record, and where each stands in it. A Const's value stands in the first operand's place.
+// The words of one record, for whoever lends storage, and where each stands in it. A Const's value stands in the first operand's place; a named
+// line has no second and third operand: the place and the length of its name stand there.
 pub const STRIDE: usize = 4;
 
-pub const AT_HEAD: usize = 0;
+const AT_HEAD: usize = 0;
 
-pub const AT_OP1: usize = 1;
+const AT_OP1: usize = 1;
 
-pub const AT_OP2: usize = 2;
+const AT_OP2: usize = 2;
 
-pub const AT_OP3: usize = 3;
-
-// A named line has no second and third operand: the place and the length of its name stand there.
-pub const AT_NAME_AT: usize = 2;
-
-pub const AT_NAME_LEN: usize = 3;
+const AT_OP3: usize = 3;
 
 // The fields of the first word: of h, h % BYTE is the kind, h / SORT_UNIT % BYTE the sort, h / AREA_UNIT % BYTE the name's area,
 // h / INIT_UNIT % BYTE the mark of a State's init, and h / NID_UNIT the identifier.
-pub const BYTE: u64 = 256;
+const BYTE: u64 = 256;
 
-pub const SORT_UNIT: u64 = 256;
+const SORT_UNIT: u64 = 256;
 
-pub const AREA_UNIT: u64 = 65536;
+const AREA_UNIT: u64 = 65536;
 
-pub const INIT_UNIT: u64 = 16777216;
+const INIT_UNIT: u64 = 16777216;
 
-pub const NID_UNIT: u64 = 4294967296;
+const NID_UNIT: u64 = 4294967296;
 
 // The largest numbers that fields of the first word hold, and the mark that we write for a State's init; on reading, any but 0 is one.
 const MOST_IN_BYTE: u64 = 255;
@@ -129,6 +127,13 @@ pub enum Looked {
     Value(Nid, NodeType),
 }
 
+// How many records so many words hold.
+pub fn capacity(words: usize) -> usize
+    ensures { λ r. ⌜ r ≡ capacityOf words ⌝ }
+{
+    words / STRIDE
+}
+
 // Stores a record at a place; a number that its field cannot hold, as the largest that it can. Where the words do not reach that far, answers
 // false and changes nothing.
 pub fn put(list: &mut [u64], place: NodeRef, line: Line) -> bool
@@ -144,7 +149,7 @@ pub fn put(list: &mut [u64], place: NodeRef, line: Line) -> bool
 }
 
 fn store(list: &mut [u64], at: usize, line: Line)
-    requires { ⌜ at + 4 ≤ length (now list) ⌝ }
+    requires { ⌜ at + stride ≤ length (now list) ⌝ }
     ensures { λ _. ⌜ now (list .exit) ≡ sets (now (list .entry)) at (words line) ⌝ }
 {
     let kind = line.kind;
@@ -201,13 +206,14 @@ pub fn get(list: &[u64], place: NodeRef) -> Found
     if list.len() / STRIDE <= p {
         return Found::Outside;
     }
-    Found::Line(fetch(list, p * STRIDE))
+    Found::Line(fetch(list, p))
 }
 
-fn fetch(list: &[u64], at: usize) -> Line
-    requires { ⌜ at + 4 ≤ length (now list) ⌝ }
-    ensures { λ r. ⌜ r ≡ lineAt (now (list .entry)) at ⌝ }
+fn fetch(list: &[u64], p: usize) -> Line
+    requires { ⌜ p < capacityOf (length (now list)) ⌝ }
+    ensures { λ r. ⌜ r ≡ recordAt (now (list .entry)) p ⌝ }
 {
+    let at = p * STRIDE;
     let head = list[at + AT_HEAD];
     let a = list[at + AT_OP1];
     let b = list[at + AT_OP2];
@@ -228,6 +234,28 @@ fn fetch(list: &[u64], at: usize) -> Line
             len: c,
         },
     }
+}
+
+// The kind of the record at a place, 0 where there is none.
+pub fn kind_at(list: &[u64], place: NodeRef) -> u64
+    ensures { λ r. ⌜ r ≡ fieldAt (λ l. l .kind) (now (list .entry)) (place .0) ⌝ }
+{
+    let p = place.0;
+    if list.len() / STRIDE <= p {
+        return 0;
+    }
+    list[p * STRIDE + AT_HEAD] % BYTE
+}
+
+// The identifier of the record at a place, 0 where there is none.
+pub fn nid_at(list: &[u64], place: NodeRef) -> Nid
+    ensures { λ r. ⌜ r .0 ≡ fieldAt (λ l. l .nid .0) (now (list .entry)) (place .0) ⌝ }
+{
+    let p = place.0;
+    if list.len() / STRIDE <= p {
+        return Nid(0);
+    }
+    Nid(list[p * STRIDE + AT_HEAD] / NID_UNIT)
 }
 
 // What the place is to a line that names it, in a list of `lines` lines.
@@ -283,10 +311,31 @@ fn carries(kind: u64, sort: u64) -> MaybeSort
 
 // A Word, where the sort that it is extended from is known.
 fn extended(from: u64) -> MaybeSort
-    ensures { λ r. ⌜ ((l : Line) → l .kind ≡ 13 → l .sort ≡ from → r ≡ carried (opOf l)) ⌝ }
+    ensures { λ r. ⌜ ((l : Line) → l .kind ≡ uextKind → l .sort ≡ from → r ≡ carried (opOf l)) ⌝ }
 {
     match sort_of(from) {
         MaybeSort::Sort(_) => MaybeSort::Sort(NodeType::Word),
         MaybeSort::NoSort => MaybeSort::NoSort,
     }
+}
+
+// 9, of this many lines in these words.
+pub fn list_out(list: &[u64], lines: usize) -> bool
+    ensures { λ r. ⌜ r ≡ linesOut (capacityOf (length (now (list .entry)))) lines ⌝ }
+{
+    lines_out(list.len() / STRIDE, lines)
+}
+
+// In storage that holds `room` lines.
+fn lines_out(room: usize, lines: usize) -> bool
+    ensures { λ r. ⌜ r ≡ linesOut room lines ⌝ }
+{
+    (MOST_LINES < lines) | (room < lines)
+}
+
+// And of their next identifier, which is at most `most`.
+pub fn tally_out(most: u64, room: usize, lines: usize, next: u64) -> bool
+    ensures { λ r. ⌜ r ≡ tallyOut most room lines next ⌝ }
+{
+    lines_out(room, lines) | (most < next)
 }

@@ -6,6 +6,7 @@ use lib.Dec.{ltb}
 use lib.ListN.{set}
 use Rattle.btor2.specs.declared.NodeRef.{NodeRef}
 use Rattle.decimal_text.specs.Scan.{numberFrom}
+use Rattle.roles.specs.Roles.{roleCount}
 use Rattle.lowering_refusals.specs.declared.State.{State}
 use Rattle.case_state.specs.declared.Step.{Step}
 
@@ -27,9 +28,9 @@ countsFrom text from st =
       next = bads .next;
     }
 
--- a place of the array of 79 roles
+-- another place of a role; one past the last changes nothing
 unfoldable pub withRole : List NodeRef → ℕ → NodeRef → List NodeRef
-withRole roles role place = cond (ltb role 79) (set roles role place) roles
+withRole roles role place = cond (ltb role roleCount) (set roles role place) roles
 
 -- two decimal numbers: the role, and its place
 unfoldable pub roleFrom : List ℕ → ℕ → State → Step

@@ -1,25 +1,22 @@
 -- One join of a list of calls, accepted or refused, whatever the host lends with it. Assumes nothing.
-use Prim.Native.Nat.{ℕ, _*_, _≤_, _<_}
-use mathlib.Core.Path.{_≡_, refl, sym, _∙_, ap, subst, fun-ext}
+use Prim.Native.Nat.{ℕ, _≤_, _<_}
+use mathlib.Core.Path.{_≡_, refl, sym, _∙_, ap, subst}
 use mathlib.Core.Bool.{Bool, true, false, cond}
-use mathlib.Core.List.{List, _++_}
+use mathlib.Core.List.{List, [], _++_, append-nil}
 use native.Mathlib.Omega.{arith}
 use borrow.Author.Tests.{eqb-true}
 use lib.Dec.{T, eqb}
-use lib.ListN.{length, take, length-append}
+use lib.ListN.{length, take}
 use Rattle.btor2.specs.declared.NodeRef.{NodeRef}
 use Rattle.btor2.specs.declared.NodeType.the-variants.{Word, Memory}
-use Rattle.btor2.specs.Op.{Op}
 use Rattle.btor2.specs.SortRule.{meetsSortRule}
-use Rattle.btor2.proofs.LineIs.{lineIs}
-use Rattle.btor2.specs.Value.{Value, Env, value}
-use Rattle.btor2.proofs.Value.{value-kept}
+use Rattle.btor2.specs.Value.{Env, value}
 use Rattle.btor2.proofs.SortRule.{line-kept}
-use Rattle.btor2_list.specs.Record.{stride}
-use Rattle.roles.specs.Roles.{role, memoryNode, memoryFlow, registerNode, registerFlow}
+use Rattle.btor2_list.specs.Record.{wordsFor}
+use Rattle.roles.specs.Roles.{role, memoryFlow, registerFlow}
 use Rattle.meaning.specs.Lines.{operators}
 use Rattle.meaning.proofs.Behind.{inside}
-use Rattle.roles_kept.proofs.RoleSets.{Fit, Roled, fit-node, fit-flow}
+use Rattle.roles_kept.proofs.RoleSets.{Fit, Roled, fit-flow}
 use Rattle.program.specs.Prog.{exec}
 use Rattle.control_flow.specs.Listed.{appendListed}
 use Rattle.join.specs.Refusal.{JoinLent, JoinInput, joinProgram, joinRefusal}
@@ -28,10 +25,11 @@ use Rattle.join.specs.Join.{JoinAnswer, joinStore, joinSettled, joinRefused, jo
 use Rattle.join_laws.specs.Means.{AcceptedJoin}
 use Rattle.join_laws.proofs.Accepted.{held, joins-mean}
 use Rattle.demand.specs.Calls.{Held, linesIn, Join, join, lentJoin, heldJoin, joinAnswerTo, joinAccepted, step}
-use Rattle.demand.specs.Demand3.{registerNodeValue, memoryNodeValue, registerFlowValue, memoryFlowValue}
+use Rattle.demand.specs.Demand3.{registerFlowValue, memoryFlowValue}
 use Rattle.demand.proofs.Views.{front-operators, front-length}
 use Rattle.demand.proofs.Call.{Good}
-use Rattle.demand.proofs.Step.{Sound}
+use Rattle.demand.proofs.Step.{Sound, Extends, values-kept}
+use Rattle.demand.proofs.CallValues.{Flows}
 
 -- accepted
 abbrev went : JoinLent → JoinHeld → JoinInput → JoinAnswer
@@ -76,14 +74,14 @@ module _ (h : Held) (c : Join) where
       (λ q. same (eqb number 0) (h .state .roles) (went (lentJoin h c) (heldJoin h c) (c .given)) (joinRefused number (lentJoin h c) (heldJoin h c) (c .given)) refl refl) refl
 
   module _ (s : Sound h) where
-    stored : h .state .tally .lines * stride ≤ length (h .list)
+    stored : wordsFor (h .state .tally .lines) ≤ length (h .list)
     unfolding Sound
     stored = s .stored
 
     module _ (q : number ≡ 0) where
-      roomy : h .state .tally .lines * stride ≤ length (c .list)
+      roomy : wordsFor (h .state .tally .lines) ≤ length (c .list)
       unfolding lentJoin heldJoin
-      roomy = omega (arith, held (lentJoin h c) (heldJoin h c) (c .given) q, front-length (take (h .state .tally .lines * stride) (h .list)) (c .list))
+      roomy = omega (arith, held (lentJoin h c) (heldJoin h c) (c .given) q, front-length (take (wordsFor (h .state .tally .lines)) (h .list)) (c .list))
 
       lent-lines : operators (lentJoin h c .list) (h .state .tally .lines) ≡ linesIn h
       unfolding lentJoin
@@ -109,30 +107,17 @@ module _ (h : Held) (c : Join) where
     unfolding Sound
     sound-join = by-step (λ x. Good (x .list) (x .state)) (λ q. record { stored = accepted q .stored; sorted = accepted q .sorted; roles = roled q }) s
 
-    pub longer-join : length (linesIn h) ≤ length (linesIn (step h (join c)))
-    longer-join = by-step (λ x. length (linesIn h) ≤ length (linesIn x)) (λ q. rw (after q, length-append (linesIn h) (accepted q .more)) (omega arith)) (omega arith)
+    pub extends-join : Extends h (step h (join c))
+    extends-join = by-step (λ x. Extends h x) (λ q. record { more = accepted q .more; lines = after q }) (record { more = []; lines = sym (append-nil (linesIn h)) })
 
-    pub values-join : (env : Env) (p : ℕ) → p < length (linesIn h) → value env (linesIn (step h (join c))) p ≡ value env (linesIn h) p
-    values-join env p l = by-step (λ x. value env (linesIn x) p ≡ value env (linesIn h) p) (λ q. ap (λ xs. value env xs p) (after q) ∙ value-kept env (linesIn h) (accepted q .more) p l) refl
-
-    module _ (env : Env) where
-      -- a place that a role has
-      at-role : (f : List NodeRef → NodeRef) → f (h .state .roles) .0 < length (linesIn h)
-          → value env (linesIn (step h (join c))) (f (step h (join c) .state .roles) .0) ≡ value env (linesIn h) (f (h .state .roles) .0)
-      at-role f l = ap (λ rs. value env (linesIn (step h (join c))) (f rs .0)) roles-join ∙ values-join env (f (h .state .roles) .0) l
-
-      pub register-node-join : registerNodeValue env (step h (join c)) ≡ registerNodeValue env h
-      unfolding registerNodeValue Sound
-      register-node-join = fun-ext (λ r. ap (λ u. u .num) (at-role (λ rs. registerNode rs r) (inside Word (linesIn h) _ (fit-node (linesIn h) (h .state .roles) (s .roles .fit) r))))
-
-      pub memory-node-join : memoryNodeValue env (step h (join c)) ≡ memoryNodeValue env h
-      unfolding memoryNodeValue Sound Fit
-      memory-node-join = ap (λ u. u .mem) (at-role (λ rs. role rs memoryNode) (inside Memory (linesIn h) _ (s .roles .fit memoryNode (omega arith))))
-
-      pub register-flow-join : (r : ℕ) → registerFlowValue env (step h (join c)) r ≡ registerFlowValue env h r
-      unfolding registerFlowValue Sound
-      register-flow-join r = ap (λ u. u .num) (at-role (λ rs. registerFlow rs r) (inside Word (linesIn h) _ (fit-flow (linesIn h) (h .state .roles) (s .roles .fit) r)))
-
-      pub memory-flow-join : (a : ℕ) → memoryFlowValue env (step h (join c)) a ≡ memoryFlowValue env h a
-      unfolding memoryFlowValue Sound Fit
-      memory-flow-join a = ap (λ u. u .mem a) (at-role (λ rs. role rs memoryFlow) (inside Memory (linesIn h) _ (s .roles .fit memoryFlow (omega arith))))
+    pub flows-join : (env : Env) → Flows env (linesIn (step h (join c))) (step h (join c) .state .roles) (registerFlowValue env h) (memoryFlowValue env h)
+    unfolding registerFlowValue memoryFlowValue Sound Fit
+    flows-join env =
+        rw roles-join
+        (record {
+          registers = λ r a b. ap (λ u. u .num) (kept (registerFlow (h .state .roles) r .0) (inside Word (linesIn h) _ (fit-flow (linesIn h) (h .state .roles) (s .roles .fit) r)));
+          memory = λ a b. ap (λ u. u .mem a) (kept (role (h .state .roles) memoryFlow .0) (inside Memory (linesIn h) _ (s .roles .fit memoryFlow (omega arith))));
+        })
+      where
+        kept : (p : ℕ) → p < length (linesIn h) → value env (linesIn (step h (join c))) p ≡ value env (linesIn h) p
+        kept = values-kept env h (step h (join c)) extends-join

@@ -17,14 +17,15 @@ use Rattle.lowering.specs.Lowering.{Lent, Answer, roomIn, programOf, settled, l
 use Rattle.lowering_laws.proofs.OneCall.{when-refused}
 use Rattle.demand.specs.Calls.{Held, Call, lower, join, lentFor, stateFor, answerTo, step, run}
 use Rattle.demand.specs.Laws.{RefusedLeaves, NodesKept}
+use Rattle.roles_kept.proofs.Call as K
 use Rattle.roles_kept.proofs.RoleSets.{outcome-node, flows-there}
-use Rattle.demand.proofs.Step.{number, accepted-is, by-step}
+use Rattle.demand.proofs.Step.{call, accepted-is, by-step}
 use Rattle.demand.proofs.JoinStep.{roles-join}
 
 pub refused-leaves : RefusedLeaves
 unfolding answerTo
 refused-leaves h c q =
-    let e = when-refused (lentFor h c) (stateFor h c) (c .instruction) (c .address) (c .flag) (λ z. subst (λ t. T (not t)) (accepted-is h c ∙ eq-eqb (number h c) 0 z) q) in
+    let e = when-refused (lentFor h c) (stateFor h c) (c .instruction) (c .address) (c .flag) (λ z. subst (λ t. T (not t)) (accepted-is h c ∙ eq-eqb (K.number (call h c)) 0 z) q) in
     (ap (λ (a : Answer). a .lent) e, ap (λ (a : Answer). a .lowered .state) e)
 
 -- an accepted call sets flows alone

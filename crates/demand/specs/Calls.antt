@@ -1,14 +1,14 @@
 -- Any list of calls, by the definitions that the code's `lower` and `join` equal. Document 01, "Start, storage, evaluation": "Demand 3 is one claim
 -- about the whole list of calls, not one for each: any records, addresses, flags and room. List, areas, identifier count and roles pass on,
 -- through a refused call as they were; edge, dispatch and bad lists may change in between."
-use Prim.Native.Nat.{ℕ, _*_}
+use Prim.Native.Nat.{ℕ}
 use mathlib.Core.Bool.{Bool, cond}
 use mathlib.Core.List.{List, [], _∷_, _++_}
 use lib.Dec.{eqb}
 use lib.ListN.{length, take, drop}
 use Rattle.btor2.specs.declared.NodeRef.{NodeRef}
 use Rattle.btor2.specs.Op.{Op}
-use Rattle.btor2_list.specs.Record.{stride}
+use Rattle.btor2_list.specs.Record.{wordsFor}
 use Rattle.riscv.specs.declared.Instruction.{Instruction}
 use Rattle.lowering_refusals.specs.declared.State.{State}
 use Rattle.lowering.specs.Lowering.{Lent, lent, Answer, lowering}
@@ -63,7 +63,7 @@ inFront used room = take (length room) used ++ drop (length used) room
 
 -- so it is with the list and our name area
 abbrev pub listFor : Held → List ℕ → List ℕ
-listFor h room = inFront (take (h .state .tally .lines * stride) (h .list)) room
+listFor h room = inFront (take (wordsFor (h .state .tally .lines)) (h .list)) room
 
 abbrev pub namesFor : Held → List ℕ → List ℕ
 namesFor h room = inFront (take (h .state .counts .names) (h .names)) room

@@ -10,15 +10,16 @@ use lib.Dec.{T, eqb}
 use lib.ListN.{length}
 use Rattle.btor2.specs.SortRule.{meetsSortRule}
 use Rattle.btor2.specs.Value.{Value, Env, value}
-use Rattle.instruction_class.specs.Class.{needsFlag}
+use Rattle.riscv.specs.Class.{needsFlag}
 use Rattle.riscv.specs.Kind.{Kind, kindAt}
 use Rattle.riscv.specs.Manual.{Effect, nothing, setsRd, setsMemory, manual}
 use Rattle.riscv.specs.Memory.{bytesOf, cellsWith}
 use Rattle.roles.specs.Roles.{memoryNode, memoryFlow, roleCount, role, registerNode, registerFlow}
 use Rattle.riscv.specs.Format.{lastRegister}
+use Rattle.riscv.specs.Zeros.{zerosOf}
 use Rattle.lowering_refusals.specs.Refusal.{roomOf}
 use Rattle.start.specs.Start.{startRefusal}
-use Rattle.meaning.specs.Access.{InOneWord, excluded}
+use Rattle.meaning.specs.Access.{Admitted, excluded}
 use Rattle.demand.specs.Calls.{Held, linesIn, Request, Call, lower, join, accepted, step, run}
 
 -- ---- what is asked of the start and of the calls
@@ -67,7 +68,7 @@ module _ (env : Env) where
 -- "a flag is true at value 1, and one not needed isn't counted": the accepted calls that need a flag which is true, where the places of the
 -- list have the values v
 abbrev pub needsItsFlag : Request → Bool
-needsItsFlag c = needsFlag (kindOf c) (eqb (c .instruction .rd) 0) (eqb (c .instruction .rs1) 0)
+needsItsFlag c = needsFlag (kindOf c) (zerosOf (c .instruction))
 
 abbrev pub isTrue : (ℕ → Value) → Held → Request → Bool
 isTrue v h c = accepted h c && (needsItsFlag c && eqb (v (c .flag .0) .num) 1)
@@ -98,10 +99,13 @@ unfoldable pub effectOf : (ℕ → ℕ) → (ℕ → ℕ) → Request → Effect
 effectOf registers memory c =
     let i = c .instruction in manual (i .imm) (c .address) (registers (i .rs1)) (registers (i .rs2)) (bytesOf memory) (kindOf c)
 
--- each one's load or store stays in one aligned 8-byte word
-abbrev pub InOneWordEach : (ℕ → ℕ) → List Request → Type 0
-InOneWordEach registers [] = Unit {0}
-InOneWordEach registers (c ∷ cs) = InOneWord (kindOf c) (registers (c .instruction .rs1)) (c .instruction .imm) × InOneWordEach registers cs
+-- what is asked of a call whose flag is true: its load or store stays in one aligned 8-byte word
+abbrev pub AdmittedCall : (ℕ → ℕ) → Request → Type 0
+AdmittedCall registers c = let i = c .instruction in Admitted (kindOf c) (registers (i .rs1)) (registers (i .rs2)) (i .imm)
+
+abbrev pub Each : (Request → Type 0) → List Request → Type 0
+Each asked [] = Unit {0}
+Each asked (c ∷ cs) = asked c × Each asked cs
 
 -- ---- the claim
 
@@ -131,7 +135,7 @@ module _ (env : Env) (start : Held) (calls : List Call) where
   AtMostOne = length trueOnes ≤ 1
 
   abbrev pub StaysInOneWord : Type 0
-  StaysInOneWord = InOneWordEach (registerNodeValue env start) trueOnes
+  StaysInOneWord = Each (AdmittedCall (registerNodeValue env start)) trueOnes
 
   -- every register flow, and the memory flow at every address
   pub record FlowValues : Type 0 where

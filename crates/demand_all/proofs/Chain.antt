@@ -1,5 +1,5 @@
 -- Call by call: what the host keeps passes on as demand 3's does. Assumes nothing.
-use Prim.Native.Nat.{ℕ, _+_, _*_, _≤_}
+use Prim.Native.Nat.{ℕ, _+_, _≤_}
 use native.Mathlib.Omega.{arith}
 use mathlib.Core.Path.{_≡_, refl, sym, ap, subst, _∙_}
 use mathlib.Core.Bool.{Bool, true, false, cond}
@@ -8,7 +8,7 @@ use borrow.Author.Tests.{le-ltb, eq-eqb, ne-eqb, eqb-true, eqb-false}
 use lib.Dec.{eqb}
 use lib.ListN.{length, set, length-set}
 use Rattle.btor2.specs.declared.NodeRef.{NodeRef}
-use Rattle.btor2_list.specs.Record.{stride}
+use Rattle.btor2_list.specs.Record.{wordsFor}
 use Rattle.builder.specs.declared.Tally.{Tally}
 use Rattle.roles.specs.Roles.{roleCount}
 use Rattle.lowering_refusals.specs.declared.State.{State}
@@ -18,7 +18,7 @@ use Rattle.lowering.specs.Words.{Given, givenBy, loweringWords}
 use Rattle.lowering.proofs.Refused.{refused-kept}
 use Rattle.state_words.proofs.Words.{by-six, size-in, state-kept, put-length}
 use Rattle.lowering.proofs.Words.{read-back}
-use Rattle.roles_kept.proofs.Call.{refusal-is, roled-after}
+use Rattle.roles_kept.proofs.Call.{called, refusal-is, roled-after}
 use Rattle.lowering_refusals.specs.declared.Counts.{Counts}
 use Rattle.join.specs.declared.JoinHeld.{JoinHeld}
 use Rattle.join.specs.Refusal.{joinLineCount, joinProgram, joinRoomOut, joinRefusal, joinLent, JoinLent, JoinInput}
@@ -68,7 +68,7 @@ module _ (h : Held) (k : Kept) (c : LowerLink) (p : PassesOn h k) (enough : stat
 
   lent-is : lentFor h (requestFor k c) ≡ l
   unfolding lentFor inFront
-  lent-is = rw (p .list, p .names, front-self (h .state .tally .lines * stride) (k .list), front-self (h .state .counts .names) (k .names))
+  lent-is = rw (p .list, p .names, front-self (wordsFor (h .state .tally .lines)) (k .list), front-self (h .state .counts .names) (k .names))
 
   state-is : stateFor h (requestFor k c) ≡ st
   unfolding stateFor
@@ -94,7 +94,7 @@ module _ (h : Held) (k : Kept) (c : LowerLink) (p : PassesOn h k) (enough : stat
   taken : a .lowered .refusal ≡ 0 → (stateWords ≤ length (after k (lowers c) .state)) × PassesOn (step h (lower (requestFor k c))) (after k (lowers c))
   unfolding after
   taken e =
-      let size : length (a .lowered .state .roles) ≡ roleCount = roled-after l st (c .call .instruction) (c .call .address) (c .call .flag) sized (sym (refusal-is l st (c .call .instruction) (c .call .address) (c .call .flag)) ∙ e) .size in
+      let size : length (a .lowered .state .roles) ≡ roleCount = roled-after (called l st (c .call .instruction) (c .call .address) (c .call .flag)) (record { size = sized; passed = sym (refusal-is l st (c .call .instruction) (c .call .address) (c .call .flag)) ∙ e }) .size in
       let read : stateIn (withState words (a .lowered .state)) ≡ a .lowered .state = read-back words (a .lowered .state) size in
       rw (given-is, step-is true (eq-eqb (a .lowered .refusal) 0 e)) (
         put-length words (a .lowered .state) size,
@@ -164,7 +164,7 @@ module _ (h : Held) (k : Kept) (c : JoinLink) (p : PassesOn h k) (enough : state
 
   join-lent-is : lentJoin h (joinFor k c) ≡ joined-lent
   unfolding lentJoin inFront
-  join-lent-is = rw (p .list, p .names, front-self (h .state .tally .lines * stride) (k .list), front-self (h .state .counts .names) (k .names))
+  join-lent-is = rw (p .list, p .names, front-self (wordsFor (h .state .tally .lines)) (k .list), front-self (h .state .counts .names) (k .names))
 
   same : Agree (joinAnswerTo h (joinFor k c)) joined
   unfolding joinAnswerTo heldJoin

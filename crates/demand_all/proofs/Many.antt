@@ -1,12 +1,12 @@
 -- Call by call: what is lent with each is what stands there. Assumes nothing.
-use Prim.Native.Nat.{ℕ, zero, suc, _+_, _*_}
+use Prim.Native.Nat.{ℕ, zero, suc, _+_}
 use mathlib.Core.Path.{_≡_, refl, sym, ap, ap₂, _∙_}
 use mathlib.Core.Bool.{Bool, true, false}
 use mathlib.Core.List.{List, [], _∷_, _++_}
 use borrow.Author.Tests.{eq-eqb, ne-eqb, eqb-true, eqb-false}
 use lib.Dec.{eqb}
 use lib.ListN.{length, take, drop}
-use Rattle.btor2_list.specs.Record.{stride}
+use Rattle.btor2_list.specs.Record.{wordsFor}
 use Rattle.lowering_refusals.specs.declared.State.{State}
 use Rattle.lowering_refusals.specs.Refusal.{refusalOf}
 use Rattle.lowering.specs.Lowering.{Lent, lent, Answer, settled, roomIn, loweringGiven, lowering}
@@ -27,7 +27,7 @@ module _ (l : Lent) (st : State) (c : LowerCall) where
 
   answer-is : answerTo (held l st) (request l st c) ≡ a
   unfolding answerTo lentFor stateFor inFront
-  answer-is = ap₂ (λ (ws ns : List ℕ). lowering (lent ws ns (l .edges) (l .dispatches) (l .bads)) st (c .instruction) (c .address) (c .flag)) (front-self (st .tally .lines * stride) (l .list)) (front-self (st .counts .names) (l .names))
+  answer-is = ap₂ (λ (ws ns : List ℕ). lowering (lent ws ns (l .edges) (l .dispatches) (l .bads)) st (c .instruction) (c .address) (c .flag)) (front-self (wordsFor (st .tally .lines)) (l .list)) (front-self (st .counts .names) (l .names))
 
   step-is : a .lowered .refusal ≡ 0 → step (held l st) (lower (request l st c)) ≡ held (a .lent) (a .lowered .state)
   unfolding step accepted

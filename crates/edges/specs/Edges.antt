@@ -1,8 +1,8 @@
 -- The in-edges of an instruction: unicorn's `go_to_instruction`, in the second `match` of `translate_to_model`.
 use Prim.Native.Nat.{ℕ, _+_, _-_, _%_, _^_}
 use mathlib.Core.List.{List, [], _∷_}
-use Rattle.instruction_class.specs.declared.Class.{Class}
-use Rattle.instruction_class.specs.declared.Class.the-variants.{Plain, Access, Addition, Branch, Jump, Indirect, Call}
+use Rattle.riscv.specs.declared.Class.{Class}
+use Rattle.riscv.specs.declared.Class.the-variants.{Plain, Access, Addi, Branch, Jal, Jalr, Ecall}
 use Rattle.models.specs.Places.{Outcome, nothing, register, memory, branch}
 use Rattle.btor2_list.specs.Records.{putRecord}
 
@@ -47,11 +47,11 @@ otherCondition (branch x y) = y
 abbrev pub edgeCount : Class → ℕ
 edgeCount Plain = 1
 edgeCount Access = 1
-edgeCount Addition = 1
+edgeCount Addi = 1
 edgeCount Branch = 2
-edgeCount Jump = 1
-edgeCount Indirect = 0
-edgeCount Call = 1
+edgeCount Jal = 1
+edgeCount Jalr = 0
+edgeCount Ecall = 1
 
 -- "An address sum wraps at 2^64"; an instruction has 4 bytes
 abbrev pub target : ℕ → ℕ → ℕ
@@ -69,10 +69,10 @@ oneEdge es n to pc origin = putRecord edgeStride es n (edge to pc origin noCondi
 abbrev pub edgesAfter : List ℕ → ℕ → Class → ℕ → ℕ → Outcome ℕ → List ℕ
 edgesAfter es n Plain pc imm o = oneEdge es n (target pc instructionSize) pc regularOrigin
 edgesAfter es n Access pc imm o = oneEdge es n (target pc instructionSize) pc regularOrigin
-edgesAfter es n Addition pc imm o = oneEdge es n (target pc instructionSize) pc regularOrigin
+edgesAfter es n Addi pc imm o = oneEdge es n (target pc instructionSize) pc regularOrigin
 edgesAfter es n Branch pc imm o =
     putRecord edgeStride (putRecord edgeStride es n (edge (target pc imm) pc branchOrigin (takenCondition o))) (n + 1)
     (edge (target pc instructionSize) pc branchOrigin (otherCondition o))
-edgesAfter es n Jump pc imm o = oneEdge es n (target pc imm) pc regularOrigin
-edgesAfter es n Indirect pc imm o = es
-edgesAfter es n Call pc imm o = oneEdge es n (target pc instructionSize) pc syscallOrigin
+edgesAfter es n Jal pc imm o = oneEdge es n (target pc imm) pc regularOrigin
+edgesAfter es n Jalr pc imm o = es
+edgesAfter es n Ecall pc imm o = oneEdge es n (target pc instructionSize) pc syscallOrigin

@@ -1,8 +1,8 @@
 // In-edges: as a record, and as numbers in a slice that the host lends. Each put is total: where the slice holds no further edge it changes
 // nothing.
 use btor2::NodeRef;
-use instruction_class::Class;
 use models::Outcome;
+use riscv::Class;
 ghost use mathlib.Core.Path.{_≡_};
 ghost use Prim.Native.Nat.{_+_, _≤_};
 ghost use Rattle.models.specs.Code.{outcomeOf};
@@ -38,11 +38,11 @@ pub fn edge_count(class: Class) -> usize
     match class {
         Class::Plain => 1,
         Class::Access => 1,
-        Class::Addition => 1,
+        Class::Addi => 1,
         Class::Branch => 2,
-        Class::Jump => 1,
-        Class::Indirect => 0,
-        Class::Call => 1,
+        Class::Jal => 1,
+        Class::Jalr => 0,
+        Class::Ecall => 1,
     }
 }
 
@@ -62,11 +62,11 @@ pub fn go_to_instructions(
     match class {
         Class::Plain => put_edge(edges, count, next, pc, REGULAR, NO_CONDITION),
         Class::Access => put_edge(edges, count, next, pc, REGULAR, NO_CONDITION),
-        Class::Addition => put_edge(edges, count, next, pc, REGULAR, NO_CONDITION),
+        Class::Addi => put_edge(edges, count, next, pc, REGULAR, NO_CONDITION),
         Class::Branch => put_branch(edges, count, target, next, pc, outcome),
-        Class::Jump => put_edge(edges, count, target, pc, REGULAR, NO_CONDITION),
-        Class::Indirect => {}
-        Class::Call => put_edge(edges, count, next, pc, SYSCALL, NO_CONDITION),
+        Class::Jal => put_edge(edges, count, target, pc, REGULAR, NO_CONDITION),
+        Class::Jalr => {}
+        Class::Ecall => put_edge(edges, count, next, pc, SYSCALL, NO_CONDITION),
     }
 }
 

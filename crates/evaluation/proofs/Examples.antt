@@ -10,13 +10,12 @@ use Rattle.btor2.specs.Op.{Op, const, read, write, bin, add, sub, uext, ite, an
 use Rattle.btor2.specs.SortRule.{rule, isStateOp, judge}
 use Rattle.btor2.specs.Value.{binary}
 use Rattle.btor2.specs.Walk.{walk}
-use Rattle.btor2_list.specs.Record.{words, lineAt}
+use Rattle.btor2_list.specs.Record.{words, recordAt}
 use Rattle.btor2_list.specs.Node.{lineOf, opOf, noName}
-use Rattle.btor2_list.specs.Records.{recordsIn}
+use Rattle.btor2_list.specs.Records.{recordsIn, firstGiven}
 use Rattle.btor2_list.specs.View.{view}
 use Rattle.list_check.specs.Lines.{some}
 use Rattle.operand_check.specs.Broken.{opBroken}
-use Rattle.given_values.specs.Given.{firstGiven}
 use Rattle.evaluation.specs.declared.Evaluated.{Evaluated}
 use Rattle.evaluation.specs.declared.Evaluated.the-variants.{Refused, Value}
 use Rattle.evaluation.specs.Evaluation.{afterValue, one, both, lookOf, looksOf, looks, unfit, evaluatedWithin}
@@ -66,12 +65,12 @@ asked = asked-with []
 values-come :
     asked 1 5 ∷ asked 9 4 ∷ asked 6 8 ∷ asked 9 9 ∷ asked 5 10 ∷ asked 5 14 ∷ asked 3 16 ∷ asked 9 17 ∷ asked 9 6 ∷ asked 9 3 ∷ []
     ≡ Value 5 1 ∷ Value 5 2 ∷ Value 100 6 ∷ Value 95 3 ∷ Value 95 5 ∷ Value 77 5 ∷ Value 5 3 ∷ Value (2 ^ 64 - 6) 2 ∷ Value 0 1 ∷ Value 1 1 ∷ []
-unfolding lines stored given-values given-memory asked-with asked lineAt opOf view walk mapOp carried isStateOp rule judge some opBroken recordsIn firstGiven afterValue one both lookOf looksOf looks unfit evaluatedWithin binary Smt.ite bvnot bvand bvadd bvsub bvneg bvcomp bit zeroExtend
+unfolding lines stored given-values given-memory asked-with asked recordAt opOf view walk mapOp carried isStateOp rule judge some opBroken recordsIn firstGiven afterValue one both lookOf looksOf looks unfit evaluatedWithin binary Smt.ite bvnot bvand bvadd bvsub bvneg bvcomp bit zeroExtend
 values-come = refl
 
 -- 18 and 17 as the visits come to them, 19 before any
 refusals-come :
     asked 5 8 ∷ asked 0 11 ∷ asked 1 11 ∷ asked 2 12 ∷ asked 9 1 ∷ asked 9 2 ∷ asked 9 18 ∷ asked 9 19 ∷ asked 9 20 ∷ asked-with (bin add 21 0 ∷ []) 9 5 ∷ []
     ≡ Refused 18 ∷ Refused 18 ∷ Refused 17 ∷ Refused 17 ∷ Refused 19 ∷ Refused 19 ∷ Refused 19 ∷ Refused 19 ∷ Refused 19 ∷ Refused 19 ∷ []
-unfolding lines stored given-values given-memory asked-with asked lineAt opOf view walk mapOp carried isStateOp rule judge some opBroken recordsIn firstGiven afterValue one both lookOf looksOf looks unfit evaluatedWithin binary Smt.ite bvnot bvand bvadd bvsub bvneg bvcomp bit zeroExtend
+unfolding lines stored given-values given-memory asked-with asked recordAt opOf view walk mapOp carried isStateOp rule judge some opBroken recordsIn firstGiven afterValue one both lookOf looksOf looks unfit evaluatedWithin binary Smt.ite bvnot bvand bvadd bvsub bvneg bvcomp bit zeroExtend
 refusals-come = refl

@@ -1,5 +1,5 @@
 -- The answer, by the tests before the first visit. Assumes nothing.
-use Prim.Native.Nat.{ℕ, _*_, _/_, _<_, _≤_}
+use Prim.Native.Nat.{ℕ, _<_, _≤_}
 use mathlib.Core.Path.{_≡_, refl, sym, _∙_, ap}
 use mathlib.Core.Bool.{Bool, true, false, cond, _&&_, _||_, true≢false}
 use mathlib.Core.Bool as B
@@ -8,6 +8,7 @@ use native.Mathlib.Omega.{arith}
 use lib.Dec.{ltb}
 use lib.ListN.{length, getD, List·getD-eq-default}
 use borrow.Author.Tests.{lt-ltb, le-ltb, ltb-false}
+use Rattle.bitvec.proofs.Truth.{neither}
 use Rattle.bitvec.proofs.Base.{by-le}
 use Rattle.btor2.specs.declared.NodeType.{NodeType}
 use Rattle.btor2.specs.declared.NodeType.the-variants.{Bit, Word}
@@ -17,11 +18,11 @@ use Rattle.btor2.specs.Op.{unknown, carried}
 use Rattle.btor2.specs.SortRule.{hasSort}
 use Rattle.btor2_list.specs.declared.Looked.{Looked}
 use Rattle.btor2_list.specs.declared.Looked.the-variants.{Outside}
-use Rattle.btor2_list.specs.Record.{stride, lineAt}
+use Rattle.btor2_list.specs.Record.{recordAt, capacity}
 use Rattle.btor2_list.specs.View.{view}
 use Rattle.btor2_list.specs.Look.{seenAs, lookAt}
 use Rattle.list_check.specs.Lines.{ops, some}
-use Rattle.list_check.proofs.Formed.{op-at, ops-length, neither}
+use Rattle.list_check.proofs.Formed.{op-at, ops-length}
 use Rattle.operand_check.specs.Broken.{lineBroken, brokenWords}
 use Rattle.sort_check.proofs.Marks.{sortSeen}
 use Rattle.given_values.specs.Given.{givenEnv}
@@ -36,7 +37,7 @@ seen-sort nid (Sort s) = refl
 seen-sort nid NoSort = refl
 
 -- a lookup in the list tells the sort of the line
-looked-sort : (ws : List ℕ) (n p : ℕ) → n ≤ length ws / stride → carried (getD (ops (view ws n)) p unknown) ≡ sortSeen (lookAt ws n p)
+looked-sort : (ws : List ℕ) (n p : ℕ) → n ≤ capacity (length ws) → carried (getD (ops (view ws n)) p unknown) ≡ sortSeen (lookAt ws n p)
 unfolding carried
 looked-sort ws n p room =
     by-le n p
@@ -44,8 +45,8 @@ looked-sort ws n p room =
     let past : length (ops (view ws n)) ≤ p = rw (ops-length ws n) h in
     ap carried (List·getD-eq-default (ops (view ws n)) unknown past) ∙ rw (le-ltb p n h))
     (λ h.
-    let there : p < length ws / stride = omega arith in
-    ap carried (op-at ws n p h) ∙ rw (lt-ltb p n h, lt-ltb p (length ws / stride) there) (sym (seen-sort (lineAt ws (p * stride) .nid .0) (carried (saidAt ws p)))))
+    let there : p < capacity (length ws) = omega arith in
+    ap carried (op-at ws n p h) ∙ rw (lt-ltb p n h, lt-ltb p (capacity (length ws)) there) (sym (seen-sort (recordAt ws p .nid .0) (carried (saidAt ws p)))))
 
 module _ (ws : List ℕ) (n : ℕ) (vs ms : List ℕ) (p : ℕ) where
   pub refused-unfit : unfit ws n p ≡ true → Refused unfitAsked ≡ evaluated ws n vs ms p
@@ -65,8 +66,8 @@ module _ (ws : List ℕ) (n : ℕ) (vs ms : List ℕ) (p : ℕ) where
       go false b c e = rw e
 
   -- the words hold the lines, where none is broken
-  pub room : brokenWords ws n ≡ false → n ≤ length ws / stride
-  room e = ltb-false (length ws / stride) n (neither (ltb (length ws / stride) n) (some n (lineBroken (ops (view ws n)))) e .0)
+  pub room : brokenWords ws n ≡ false → n ≤ capacity (length ws)
+  room e = ltb-false (capacity (length ws)) n (neither (ltb (capacity (length ws)) n) (some n (lineBroken (ops (view ws n)))) e .0)
 
   asked-for : (m : MaybeSort) → sortSeen (lookAt ws n p) ≡ m → n ≤ benchLines → brokenWords ws n ≡ false → unfit ws n p ≡ B.not (hasSort Bit m || hasSort Word m)
   unfolding unfit
@@ -94,4 +95,4 @@ module _ (ws : List ℕ) (n : ℕ) (vs ms : List ℕ) (p : ℕ) where
   unfolding evaluatedWithin numFrom looks
   answered R m s l b h e =
       rw (asked-for m s l b ∙ ap B.not h)
-      (e ∙ ap (λ (k : Looks). k .num 0) (kept Looks noLooks (looksOf mostVisits (givenEnv vs ms)) ws (length ws / stride) n p (below m s b h) (room b)))
+      (e ∙ ap (λ (k : Looks). k .num 0) (kept Looks noLooks (looksOf mostVisits (givenEnv vs ms)) ws (capacity (length ws)) n p (below m s b h) (room b)))

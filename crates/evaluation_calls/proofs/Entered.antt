@@ -1,5 +1,5 @@
 -- A line that is visited: below the mostVisits and where it meets the sort rule, what it comes to is what its operands come to. Assumes nothing.
-use Prim.Native.Nat.{ℕ, _+_, _/_, _<_, _≤_}
+use Prim.Native.Nat.{ℕ, _+_, _<_, _≤_}
 use mathlib.Core.Path.{_≡_, refl, sym, _∙_, ap, ap₂, fun-ext}
 use mathlib.Core.Bool.{Bool, true, false, cond, _&&_, _||_, true≢false}
 use mathlib.Core.List.{List, []}
@@ -15,7 +15,7 @@ use Rattle.btor2.specs.SortRule.{Mark, markOf, isStateOp, is, rule, Judged, jud
 use Rattle.btor2.specs.Value.{Env}
 use Rattle.btor2.specs.Walk.{walk}
 use Rattle.btor2.proofs.Op.{mapOp-mapOp, mark-map}
-use Rattle.btor2_list.specs.Record.{stride}
+use Rattle.btor2_list.specs.Record.{capacity}
 use Rattle.btor2_list.specs.View.{view}
 use Rattle.list_check.specs.Lines.{ops}
 use Rattle.list_check.proofs.Formed.{ops-length}
@@ -67,7 +67,7 @@ module _ (env : Env) (ws : List ℕ) where
   unfolding looksOf judge
   mark-of n q h = ap (λ (l : Looks). l .judged .mark) (at Looks noLooks (looksOf mostVisits env) ws n q h) ∙ mark-map (λ (l : Looks). l .judged) (mapOp (before q) (saidAt ws q)) ∙ mark-map (before q) (saidAt ws q)
 
-  module _ (p : ℕ) (held : p < length ws / stride) where
+  module _ (p : ℕ) (held : p < capacity (length ws)) where
     marks : (q : ℕ) → before p q .judged .mark ≡ markAt ws p q
     marks q =
         by-le p q
@@ -86,13 +86,13 @@ module _ (env : Env) (ws : List ℕ) where
 
     whole : looksAt mostVisits env (allOf ws) p ≡ looksOf mostVisits env p (mapOp (before p) (saidAt ws p))
     unfolding looks
-    whole = at Looks noLooks (looksOf mostVisits env) ws (length ws / stride) p held
+    whole = at Looks noLooks (looksOf mostVisits env) ws (capacity (length ws)) p held
 
     operands : rule (mapOp (markAt ws p) (saidAt ws p)) ≡ true → mapOp (before p) (saidAt ws p) ≡ mapOp (looksAt mostVisits env (allOf ws)) (saidAt ws p)
     unfolding looks
     operands r =
         agree (markAt ws p) (before p) (looksAt mostVisits env (allOf ws))
-        (λ s q e. sym (kept Looks noLooks (looksOf mostVisits env) ws (length ws / stride) p q (earlier ws p held s q e .0) (omega arith)))
+        (λ s q e. sym (kept Looks noLooks (looksOf mostVisits env) ws (capacity (length ws)) p q (earlier ws p held s q e .0) (omega arith)))
         (saidAt ws p)
         (parts (markAt ws p) (saidAt ws p) r)
 

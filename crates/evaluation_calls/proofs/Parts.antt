@@ -1,5 +1,5 @@
 -- What the sort rule of a line says of its operands: each is an earlier line of a sort. Assumes nothing.
-use Prim.Native.Nat.{ℕ, _/_, _<_, _≤_}
+use Prim.Native.Nat.{ℕ, _<_, _≤_}
 use mathlib.Core.Path.{_≡_, refl, sym, _∙_, ap, ap₂}
 use mathlib.Core.Bool.{Bool, true, false, cond, _&&_, _||_, true≢false}
 use mathlib.Core.Bool as B
@@ -17,7 +17,7 @@ use Rattle.btor2.specs.Sort.{sameSort}
 use Rattle.btor2.specs.Op.{Op, mapOp, const, read, write, bin, uext, ite, eq, and, or, not, state, stateInit, next, input, bad, unknown, carried}
 use Rattle.btor2.specs.SortRule.{Mark, markOf, isStateOp, hasSort, is, bitOrWord, rule, noLine}
 use Rattle.btor2.proofs.Sort.{same-sort}
-use Rattle.btor2_list.specs.Record.{stride}
+use Rattle.btor2_list.specs.Record.{capacity}
 use Rattle.sort_check.specs.Marks.{markAt}
 use Rattle.evaluation_calls.specs.Inside.{saidAt, Visitable}
 
@@ -97,9 +97,9 @@ eq-words f a b e h = either-right _ _ _ _ e h
 
 -- ---- an operand that has a sort is an earlier line of that sort
 
-module _ (ws : List ℕ) (p : ℕ) (held : p < length ws / stride) where
+module _ (ws : List ℕ) (p : ℕ) (held : p < capacity (length ws)) where
   pub mark-before : (q : ℕ) → q < p → markAt ws p q ≡ markOf (saidAt ws q)
-  mark-before q h = let there : q < length ws / stride = omega arith in rw (lt-ltb q p h, lt-ltb q (length ws / stride) there)
+  mark-before q h = let there : q < capacity (length ws) = omega arith in rw (lt-ltb q p h, lt-ltb q (capacity (length ws)) there)
 
   pub mark-after : (q : ℕ) → p ≤ q → markAt ws p q ≡ noLine .mark
   mark-after q h = rw (le-ltb q p h)

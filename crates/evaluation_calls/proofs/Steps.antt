@@ -1,5 +1,5 @@
 -- What each arm of the evaluation returns and asks. Assumes nothing.
-use Prim.Native.Nat.{ℕ, _+_, _*_, _/_, _%_, _^_, _<_, _≤_, max}
+use Prim.Native.Nat.{ℕ, _+_, _*_, _%_, _^_, _<_, _≤_, max}
 use mathlib.Core.Path.{_≡_, refl, sym, _∙_, ap}
 use mathlib.Core.Bool.{Bool, true, false, cond, _&&_, _||_, true≢false}
 use mathlib.Core.Bool as B
@@ -22,7 +22,7 @@ use Rattle.btor2.specs.Sort.{width, sameSort}
 use Rattle.btor2.specs.Op.{Bin, add, sub, mul, udiv, sdiv, urem, sll, srl, ult, binSort, Op, mapOp, const, read, write, bin, uext, ite, eq, and, or, not, state, stateInit, next, input, bad, unknown, carried}
 use Rattle.btor2.specs.SortRule.{is, hasSort, bitOrWord, rule}
 use Rattle.btor2.specs.Value.{number, array, ofSort, binary}
-use Rattle.btor2_list.specs.Record.{stride}
+use Rattle.btor2_list.specs.Record.{capacity}
 use Rattle.line_operator.specs.declared.Operator.{Operator}
 use Rattle.line_operator.specs.declared.Operator.the-variants.{Const, Read, Write, Binary, Ext, Ite, Eq, And, Or, Not, State, StateInit, Next, Input, Bad, Unknown}
 use Rattle.line_operator.proofs.Operator.{the-type}
@@ -142,14 +142,14 @@ module _ (A : Evaluated) (b : ℕ → Evaluated) where
 -- ---- a line that is visited
 
 pub record Entered (ws vs ms : List ℕ) (p v : ℕ) (o : Op ℕ) : Type 0 where
-  pub held : p < length ws / stride
+  pub held : p < capacity (length ws)
   pub said : saidAt ws p ≡ o
   pub rules : Parts (markAt ws p) o
   pub num : numFrom ws vs ms p v ≡ lookOf (givenEnv vs ms) p (mapOp (looksAt mostVisits (givenEnv vs ms) (allOf ws)) o) .num (v + 1)
   pub cell : (a : ℕ) → cellFrom ws vs ms p a v ≡ lookOf (givenEnv vs ms) p (mapOp (looksAt mostVisits (givenEnv vs ms) (allOf ws)) o) .cell a (v + 1)
 
 -- what a visit comes to: 18, 17, or what its line says
-module _ (ws vs ms : List ℕ) (p v : ℕ) (held : p < length ws / stride) (r : ℕ) (result : r ≡ visitRefusal ws p v) where
+module _ (ws vs ms : List ℕ) (p v : ℕ) (held : p < capacity (length ws)) (r : ℕ) (result : r ≡ visitRefusal ws p v) where
   abbrev right : Bool
   right = rule (mapOp (markAt ws p) (saidAt ws p))
 
@@ -195,6 +195,12 @@ module _ (ws vs ms : List ℕ) (p v : ℕ) (held : p < length ws / stride) (r : 
       }
 
 -- ---- what the records give
+
+-- a line whose value the records give, and its sort
+pub data Given : Op ℕ → NodeType → Type 0 where
+  is-state : {s : NodeType} {m : Name} → Given (state s m) s
+  is-init : {s : NodeType} {a : ℕ} {m : Name} → Given (stateInit s a m) s
+  is-input : {s : NodeType} {m : Name} → Given (input s m) s
 
 given-num : (vs ms : List ℕ) (p : ℕ) (s : NodeType) → givenValue vs p % 2 ^ width s ≡ ofSort s (givenEnv vs ms p) .num
 given-num vs ms p Memory = omega arith
@@ -255,7 +261,7 @@ from-word Input6Byte e h = refl
 from-word Input7Byte e h = refl
 
 -- two operands of a sort
-two-asked : (ws : List ℕ) (p : ℕ) → p < length ws / stride → (test : MaybeSort → Bool) (s : NodeType) (a b : ℕ) → is s (markAt ws p a) ≡ true → is s (markAt ws p b) ≡ true
+two-asked : (ws : List ℕ) (p : ℕ) → p < capacity (length ws) → (test : MaybeSort → Bool) (s : NodeType) (a b : ℕ) → is s (markAt ws p a) ≡ true → is s (markAt ws p b) ≡ true
     → test (Sort s) ≡ true → (max a b < p) × (Visitable test ws a × Visitable test ws b)
 two-asked ws p held test s a b i j h =
     let l = earlier ws p held s a i .0 in
@@ -355,17 +361,12 @@ module _ {ws vs ms : List ℕ} {p v : ℕ} where
       go (Value x k) = refl
       go (Refused r) = refl
 
-  pub of-state : {s : NodeType} {m : Name} {x : ℕ} → Entered ws vs ms p v (state s m) → x ≡ givenValue vs p % 2 ^ width s → Value x (v + 1) ≡ numFrom ws vs ms p v
+  -- a state or an input, by its record
+  pub of-given : {o : Op ℕ} {s : NodeType} {x : ℕ} → Given o s → Entered ws vs ms p v o → x ≡ givenValue vs p % 2 ^ width s → Value x (v + 1) ≡ numFrom ws vs ms p v
   unfolding lookOf mapOp
-  of-state {s} e h = ap (λ (i : ℕ). Value i (v + 1)) (h ∙ given-num vs ms p s) ∙ sym (e .num)
-
-  pub of-init : {s : NodeType} {a : ℕ} {m : Name} {x : ℕ} → Entered ws vs ms p v (stateInit s a m) → x ≡ givenValue vs p % 2 ^ width s → Value x (v + 1) ≡ numFrom ws vs ms p v
-  unfolding lookOf mapOp
-  of-init {s} e h = ap (λ (i : ℕ). Value i (v + 1)) (h ∙ given-num vs ms p s) ∙ sym (e .num)
-
-  pub of-input : {s : NodeType} {m : Name} {x : ℕ} → Entered ws vs ms p v (input s m) → x ≡ givenValue vs p % 2 ^ width s → Value x (v + 1) ≡ numFrom ws vs ms p v
-  unfolding lookOf mapOp
-  of-input {s} e h = ap (λ (i : ℕ). Value i (v + 1)) (h ∙ given-num vs ms p s) ∙ sym (e .num)
+  of-given {o} {s} is-state e h = ap (λ (i : ℕ). Value i (v + 1)) (h ∙ given-num vs ms p s) ∙ sym (e .num)
+  of-given {o} {s} is-init e h = ap (λ (i : ℕ). Value i (v + 1)) (h ∙ given-num vs ms p s) ∙ sym (e .num)
+  of-given {o} {s} is-input e h = ap (λ (i : ℕ). Value i (v + 1)) (h ∙ given-num vs ms p s) ∙ sym (e .num)
 
   -- ---- a cell, kind by kind
 
@@ -378,20 +379,12 @@ module _ {ws vs ms : List ℕ} {p v : ℕ} where
   unfolding lookOf mapOp numFrom cellFrom
   cell-ite a e = record { is = e .cell a }
 
-  pub cell-state : {s : NodeType} {m : Name} {x : ℕ} (a : ℕ) → Entered ws vs ms p v (state s m) → hasSort Memory (carried (saidAt ws p)) ≡ true → x ≡ givenCell ms p a % 2 ^ 64
+  pub cell-given : {o : Op ℕ} {s : NodeType} {x : ℕ} (a : ℕ) → Given o s → Entered ws vs ms p v o → hasSort Memory (carried (saidAt ws p)) ≡ true → x ≡ givenCell ms p a % 2 ^ 64
       → Value x (v + 1) ≡ cellFrom ws vs ms p a v
   unfolding lookOf mapOp carried
-  cell-state {s} a e t h = ap (λ (i : ℕ). Value i (v + 1)) (h ∙ given-mem vs ms p s a (of-sort (hasSort Memory) e t)) ∙ sym (e .cell a)
-
-  pub cell-init : {s : NodeType} {i : ℕ} {m : Name} {x : ℕ} (a : ℕ) → Entered ws vs ms p v (stateInit s i m) → hasSort Memory (carried (saidAt ws p)) ≡ true → x ≡ givenCell ms p a % 2 ^ 64
-      → Value x (v + 1) ≡ cellFrom ws vs ms p a v
-  unfolding lookOf mapOp carried
-  cell-init {s} a e t h = ap (λ (i : ℕ). Value i (v + 1)) (h ∙ given-mem vs ms p s a (of-sort (hasSort Memory) e t)) ∙ sym (e .cell a)
-
-  pub cell-input : {s : NodeType} {m : Name} {x : ℕ} (a : ℕ) → Entered ws vs ms p v (input s m) → hasSort Memory (carried (saidAt ws p)) ≡ true → x ≡ givenCell ms p a % 2 ^ 64
-      → Value x (v + 1) ≡ cellFrom ws vs ms p a v
-  unfolding lookOf mapOp carried
-  cell-input {s} a e t h = ap (λ (i : ℕ). Value i (v + 1)) (h ∙ given-mem vs ms p s a (of-sort (hasSort Memory) e t)) ∙ sym (e .cell a)
+  cell-given {o} {s} a is-state e t h = ap (λ (i : ℕ). Value i (v + 1)) (h ∙ given-mem vs ms p s a (of-sort (hasSort Memory) e t)) ∙ sym (e .cell a)
+  cell-given {o} {s} a is-init e t h = ap (λ (i : ℕ). Value i (v + 1)) (h ∙ given-mem vs ms p s a (of-sort (hasSort Memory) e t)) ∙ sym (e .cell a)
+  cell-given {o} {s} a is-input e t h = ap (λ (i : ℕ). Value i (v + 1)) (h ∙ given-mem vs ms p s a (of-sort (hasSort Memory) e t)) ∙ sym (e .cell a)
 
   -- ---- Not, by its sort
 

@@ -1,5 +1,5 @@
 -- What only private contracts cite.
-use Prim.Native.Nat.{ℕ, _*_, _/_, _<_}
+use Prim.Native.Nat.{ℕ, _<_}
 use mathlib.Core.Path.{_≡_}
 use mathlib.Core.Bool.{Bool, true, false, cond, _||_}
 use mathlib.Core.Bool as B
@@ -13,7 +13,7 @@ use Rattle.btor2.specs.declared.MaybeSort.the-variants.{Sort, NoSort}
 use Rattle.btor2.specs.Sort.{sameSort}
 use Rattle.btor2.specs.Op.{Op, eq, mapOp, carried}
 use Rattle.btor2.specs.SortRule.{rule}
-use Rattle.btor2_list.specs.Record.{stride, lineAt}
+use Rattle.btor2_list.specs.Record.{recordAt, capacity}
 use Rattle.btor2_list.specs.Node.{opOf}
 use Rattle.btor2_list.specs.View.{view}
 use Rattle.list_check.specs.Lines.{ops}
@@ -27,11 +27,11 @@ use Rattle.evaluation.specs.Evaluation.{illSorted, tooManyVisits, mostVisits, l
 
 -- what the record at place p says
 abbrev pub saidAt : List ℕ → ℕ → Op ℕ
-saidAt ws p = opOf (lineAt ws (p * stride))
+saidAt ws p = opOf (recordAt ws p)
 
 -- the lines of all the lent words: what a line comes to depends on no later one
 abbrev pub allOf : List ℕ → List (Op ℕ)
-allOf ws = ops (view ws (length ws / stride))
+allOf ws = ops (view ws (capacity (length ws)))
 
 unfoldable pub numFrom : List ℕ → List ℕ → List ℕ → ℕ → ℕ → Evaluated
 numFrom ws vs ms p n = looksAt mostVisits (givenEnv vs ms) (allOf ws) p .num n
@@ -59,10 +59,10 @@ wordSort NoSort = false
 
 -- a line of the words, whose sort passes a test
 pub record Visitable (test : MaybeSort → Bool) (ws : List ℕ) (p : ℕ) : Type 0 where
-  pub held : p < length ws / stride
+  pub held : p < capacity (length ws)
   pub sort : test (carried (saidAt ws p)) ≡ true
 
 -- an Eq at place p of the lines a and b, which meets the sort rule
 pub record EqRight (ws : List ℕ) (p a b : ℕ) : Type 0 where
-  pub held : p < length ws / stride
+  pub held : p < capacity (length ws)
   pub right : rule (mapOp (markAt ws p) (eq a b)) ≡ true

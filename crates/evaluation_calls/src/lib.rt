@@ -21,12 +21,12 @@ use sort_check::is_of;
 use sort_check::meets_rule;
 use sort_check::same;
 ghost use mathlib.Core.Path.{_≡_};
-ghost use Prim.Native.Nat.{_/_, _<_};
+ghost use Prim.Native.Nat.{_<_};
 ghost use lib.ListN.{length};
 ghost use Rattle.btor2.specs.declared.NodeType.the-variants.{Bit, Memory};
 ghost use Rattle.btor2.specs.SortRule.{hasSort};
 ghost use Rattle.line_operator.specs.Operator.{opFrom};
-ghost use Rattle.btor2_list.specs.Record.{stride};
+ghost use Rattle.btor2_list.specs.Record.{capacity};
 ghost use Rattle.evaluation.specs.Evaluation.{evaluated};
 ghost use Rattle.evaluation_calls.specs.Inside.{numFrom, cellFrom, pairOf, saidAt, visitRefusal, wordSort, Visitable, EqRight};
 
@@ -284,7 +284,7 @@ struct Visited {
 
 // A visit of the line at a place, after this many others: the limit is tested before the line is looked at, then its sort rule.
 fn visit(list: &[u64], place: NodeRef, visits: u64) -> Visited
-    requires { ⌜ place .0 < length (now list) / stride ⌝ }
+    requires { ⌜ place .0 < capacity (length (now list)) ⌝ }
     ensures refusal { λ r. ⌜ r .refusal ≡ visitRefusal (now (list .entry)) (place .0) visits ⌝ }
     ensures line { λ r. ⌜ (r .refusal ≡ 0 → opFrom (r .line) ≡ saidAt (now (list .entry)) (place .0)) ⌝ }
 {
@@ -309,7 +309,7 @@ fn refused_visit(refusal: u64) -> Visited
 
 // What the line at a place says.
 fn operator_at(list: &[u64], place: NodeRef) -> Operator
-    requires { ⌜ place .0 < length (now list) / stride ⌝ }
+    requires { ⌜ place .0 < capacity (length (now list)) ⌝ }
     ensures { λ r. ⌜ opFrom r ≡ saidAt (now (list .entry)) (place .0) ⌝ }
 {
     match get(list, place) {

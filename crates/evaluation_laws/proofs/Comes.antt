@@ -9,6 +9,7 @@ use native.Mathlib.Omega.{arith}
 use borrow.Author.Tests.{lt-ltb, le-ltb}
 use lib.Dec.{T, ltb, eqb}
 use lib.ListN.{length, getD}
+use Rattle.bitvec.proofs.Truth.{is-true}
 use Rattle.bitvec.specs.Smtlib.{bit, bvnot, bvand, bvor, bvcomp, zeroExtend}
 use Rattle.bitvec.specs.Smtlib as Smt
 use Rattle.bitvec.proofs.Base.{by-le}
@@ -206,10 +207,6 @@ module _ (limit : ℕ) (env : Env) (p : ℕ) (f : ℕ → Looks) (g : ℕ → Sp
       }
 
 -- ---- over a list
-
-is-true : (b : Bool) → T b → b ≡ true
-is-true true h = refl
-is-true false h = absurd h
 
 -- the marks are those of the sort rule, so that every line is right where the list meets it
 module _ (limit : ℕ) where

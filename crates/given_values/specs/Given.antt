@@ -7,7 +7,7 @@ use mathlib.Core.List.{List, [], _∷_}
 use lib.Dec.{eqb}
 use lib.ListN.{length, getD}
 use Rattle.btor2.specs.Value.{Env}
-use Rattle.btor2_list.specs.Records.{recordsIn}
+use Rattle.btor2_list.specs.Records.{recordsIn, firstGiven}
 
 -- a record of a value: node, value
 pub record NodeValue : Type 0 where
@@ -32,24 +32,19 @@ cellStride = 3
 abbrev pub cellIn : List ℕ → NodeCell
 cellIn ws = record { node = getD ws 0 0; address = getD ws 1 0; word = getD ws 2 0 }
 
--- "the first ... counts, a missing one reads 0": what the first record that passes a test gives
-unfoldable pub firstGiven : {A : Type 0} → (A → Bool) → (A → ℕ) → List A → ℕ
-firstGiven test give [] = 0
-firstGiven test give (x ∷ xs) = cond (test x) (give x) (firstGiven test give xs)
-
--- "for a node"
+-- "the first for a node [..] counts, a missing one reads 0"
 abbrev pub forNode : ℕ → NodeValue → Bool
 forNode p x = eqb (x .node) p
 
 abbrev pub givenValue : List ℕ → ℕ → ℕ
-givenValue ws p = firstGiven (forNode p) (λ x. x .value) (recordsIn valueStride valueIn (length ws / valueStride) ws)
+givenValue ws p = firstGiven 0 (forNode p) (λ x. x .value) (recordsIn valueStride valueIn (length ws / valueStride) ws)
 
 -- "or node and address"
 abbrev pub forCell : ℕ → ℕ → NodeCell → Bool
 forCell p a x = eqb (x .node) p && eqb (x .address) a
 
 abbrev pub givenCell : List ℕ → ℕ → ℕ → ℕ
-givenCell ws p a = firstGiven (forCell p a) (λ x. x .word) (recordsIn cellStride cellIn (length ws / cellStride) ws)
+givenCell ws p a = firstGiven 0 (forCell p a) (λ x. x .word) (recordsIn cellStride cellIn (length ws / cellStride) ws)
 
 -- any numbers for the states and inputs: `value` (btor2/specs/Value) takes each modulo 2 to the width of its line's sort
 abbrev pub givenEnv : List ℕ → List ℕ → Env

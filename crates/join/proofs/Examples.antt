@@ -8,12 +8,12 @@ use lib.ListN.{length, replicate, take, drop}
 use Rattle.btor2.specs.declared.NodeRef.{NodeRef}
 use Rattle.btor2.specs.declared.NodeType.the-variants.{Bit, Word, Memory}
 use Rattle.btor2.specs.Op.{Op, const, and, eq, ite, state, stateInit, next, carried}
-use Rattle.btor2_list.specs.Record.{words, lineAt}
+use Rattle.btor2_list.specs.Record.{words, recordAt}
 use Rattle.btor2_list.specs.Node.{Node, node, lineOf, opOf, noName}
 use Rattle.btor2_list.specs.View.{view}
 use Rattle.btor2_name.specs.NameBytes.{ourArea}
 use Rattle.builder.specs.Append.{appendLine}
-use Rattle.btor2_list.specs.Records.{recordsIn}
+use Rattle.btor2_list.specs.Records.{recordsIn, firstGiven}
 use Rattle.program.specs.Prog.{_>>=_}
 use Rattle.program.specs.Lines.{linesOf}
 use Rattle.roles.specs.Roles.{ref}
@@ -26,7 +26,7 @@ use Rattle.control_flow.specs.ControlFlow.{controlFlowFromAny, controlFlowFromR
 use Rattle.join.specs.declared.Asked.{Asked}
 use Rattle.join.specs.declared.JoinHeld.{JoinHeld}
 use Rattle.join.specs.Program.{namesOf, nextsOf, fromEdge, joinEdges, joinDispatches, joinAddress}
-use Rattle.join.specs.Given.{noFlag, flagFor}
+use Rattle.join.specs.Given.{noFlag}
 use Rattle.join.specs.Refusal.{JoinLent, joinLent, JoinInput, joinInput, joinProgram, flagsOut, joinLineCount, joinRoomOut, joinRefusal}
 use Rattle.join.specs.Join.{JoinAnswer, joinSettled, joining}
 
@@ -98,20 +98,20 @@ got g =
 
 -- nothing to join; a flow that is the zero bit's own place is replaced without a line, and so is one that a flag made it
 none : got (of [] [] 0) ≡ record { refusal = 0; nodes = []; flow = 0; nid = 27; names = []; sequentials = 7 ∷ [] }
-unfolding got of table stored start-lines places begun room asked regular branch syscall view lineAt opOf carried rolesFit recordsIn flagFor namesOf nextsOf joinProgram joinAddress joinEdges joinDispatches fromEdge controlFlowFromAny controlFlowFromRegular controlFlowFromBranch controlFlowFromEcall controlFlowFromJalr linesOf _>>=_ appendLine appendListed flagName numeral flagsOut joinLineCount joinRoomOut joinRefusal joinSettled joining
+unfolding got of table stored start-lines places begun room asked regular branch syscall view recordAt opOf carried rolesFit recordsIn firstGiven namesOf nextsOf joinProgram joinAddress joinEdges joinDispatches fromEdge controlFlowFromAny controlFlowFromRegular controlFlowFromBranch controlFlowFromEcall controlFlowFromJalr linesOf _>>=_ appendLine appendListed flagName numeral flagsOut joinLineCount joinRoomOut joinRefusal joinSettled joining
 none = refl
 
 -- the first flag of 4; then the bit 1, by an ite; from a 0 that is not the zero bit's own place an ite too
 regulars : got (of (regular 4 ++ regular 8) [] 0) ≡ record { refusal = 0; nodes = node 27 (ite Bit 1 1 4) ∷ []; flow = 7; nid = 28; names = []; sequentials = 7 ∷ [] }
-unfolding got of table stored start-lines places begun room asked regular branch syscall view lineAt opOf carried rolesFit recordsIn flagFor namesOf nextsOf joinProgram joinAddress joinEdges joinDispatches fromEdge controlFlowFromAny controlFlowFromRegular controlFlowFromBranch controlFlowFromEcall controlFlowFromJalr linesOf _>>=_ appendLine appendListed flagName numeral flagsOut joinLineCount joinRoomOut joinRefusal joinSettled joining
+unfolding got of table stored start-lines places begun room asked regular branch syscall view recordAt opOf carried rolesFit recordsIn firstGiven namesOf nextsOf joinProgram joinAddress joinEdges joinDispatches fromEdge controlFlowFromAny controlFlowFromRegular controlFlowFromBranch controlFlowFromEcall controlFlowFromJalr linesOf _>>=_ appendLine appendListed flagName numeral flagsOut joinLineCount joinRoomOut joinRefusal joinSettled joining
 regulars = refl
 
 zeros : got (of (regular 12 ++ branch 4 1) [] 0) ≡ record { refusal = 0; nodes = node 27 (and Bit 4 1) ∷ []; flow = 7; nid = 28; names = []; sequentials = 7 ∷ [] }
-unfolding got of table stored start-lines places begun room asked regular branch syscall view lineAt opOf carried rolesFit recordsIn flagFor namesOf nextsOf joinProgram joinAddress joinEdges joinDispatches fromEdge controlFlowFromAny controlFlowFromRegular controlFlowFromBranch controlFlowFromEcall controlFlowFromJalr linesOf _>>=_ appendLine appendListed flagName numeral flagsOut joinLineCount joinRoomOut joinRefusal joinSettled joining
+unfolding got of table stored start-lines places begun room asked regular branch syscall view recordAt opOf carried rolesFit recordsIn firstGiven namesOf nextsOf joinProgram joinAddress joinEdges joinDispatches fromEdge controlFlowFromAny controlFlowFromRegular controlFlowFromBranch controlFlowFromEcall controlFlowFromJalr linesOf _>>=_ appendLine appendListed flagName numeral flagsOut joinLineCount joinRoomOut joinRefusal joinSettled joining
 zeros = refl
 
 other-zero : got (of (regular 4) [] 5) ≡ record { refusal = 0; nodes = node 27 (ite Bit 4 1 5) ∷ []; flow = 7; nid = 28; names = []; sequentials = 7 ∷ [] }
-unfolding got of table stored start-lines places begun room asked regular branch syscall view lineAt opOf carried rolesFit recordsIn flagFor namesOf nextsOf joinProgram joinAddress joinEdges joinDispatches fromEdge controlFlowFromAny controlFlowFromRegular controlFlowFromBranch controlFlowFromEcall controlFlowFromJalr linesOf _>>=_ appendLine appendListed flagName numeral flagsOut joinLineCount joinRoomOut joinRefusal joinSettled joining
+unfolding got of table stored start-lines places begun room asked regular branch syscall view recordAt opOf carried rolesFit recordsIn firstGiven namesOf nextsOf joinProgram joinAddress joinEdges joinDispatches fromEdge controlFlowFromAny controlFlowFromRegular controlFlowFromBranch controlFlowFromEcall controlFlowFromJalr linesOf _>>=_ appendLine appendListed flagName numeral flagsOut joinLineCount joinRoomOut joinRefusal joinSettled joining
 other-zero = refl
 
 -- a syscall takes six identifiers for its five lines; its Next is listed with the sequentials; the dispatch comes after it
@@ -133,7 +133,7 @@ syscalls : got (of (syscall 8) (31 ∷ 2 ∷ []) 4)
       names = ascii "kernel-mode-pc-flag-8";
       sequentials = 7 ∷ 9 ∷ [];
     }
-unfolding got of table stored start-lines places begun room asked regular branch syscall view lineAt opOf carried rolesFit recordsIn flagFor namesOf nextsOf joinProgram joinAddress joinEdges joinDispatches fromEdge controlFlowFromAny controlFlowFromRegular controlFlowFromBranch controlFlowFromEcall controlFlowFromJalr linesOf _>>=_ appendLine appendListed flagName numeral flagsOut joinLineCount joinRoomOut joinRefusal joinSettled joining
+unfolding got of table stored start-lines places begun room asked regular branch syscall view recordAt opOf carried rolesFit recordsIn firstGiven namesOf nextsOf joinProgram joinAddress joinEdges joinDispatches fromEdge controlFlowFromAny controlFlowFromRegular controlFlowFromBranch controlFlowFromEcall controlFlowFromJalr linesOf _>>=_ appendLine appendListed flagName numeral flagsOut joinLineCount joinRoomOut joinRefusal joinSettled joining
 syscalls = refl
 
 -- ---- refused ones, each beside one that is not: the number of the first refusal that applies
@@ -199,5 +199,5 @@ cases =
     ∷ []
 
 all-numbered : T (every cases)
-unfolding got of table stored start-lines places begun room asked regular branch syscall view lineAt opOf carried rolesFit recordsIn flagFor namesOf nextsOf joinProgram joinAddress joinEdges joinDispatches fromEdge controlFlowFromAny controlFlowFromRegular controlFlowFromBranch controlFlowFromEcall controlFlowFromJalr linesOf _>>=_ appendLine appendListed flagName numeral flagsOut joinLineCount joinRoomOut joinRefusal joinSettled joining numbered with-table with-bits counts one every cases
+unfolding got of table stored start-lines places begun room asked regular branch syscall view recordAt opOf carried rolesFit recordsIn firstGiven namesOf nextsOf joinProgram joinAddress joinEdges joinDispatches fromEdge controlFlowFromAny controlFlowFromRegular controlFlowFromBranch controlFlowFromEcall controlFlowFromJalr linesOf _>>=_ appendLine appendListed flagName numeral flagsOut joinLineCount joinRoomOut joinRefusal joinSettled joining numbered with-table with-bits counts one every cases
 all-numbered = tt

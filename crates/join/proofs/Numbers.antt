@@ -7,14 +7,15 @@ use native.Mathlib.Omega.{arith}
 use borrow.Author.Tests.{ltb-false}
 use lib.Dec.{ltb}
 use lib.ListN.{length}
-use Rattle.btor2_list.specs.Record.{stride}
+use Rattle.bitvec.proofs.Truth.{neither}
+use Rattle.btor2_list.specs.Record.{capacity}
 use Rattle.edges.specs.Edges.{edgeStride, dispatchStride}
 use Rattle.list_check.specs.Lines.{any}
 use Rattle.riscv.specs.Refusal.{first}
 use Rattle.riscv.proofs.First.{hit, miss}
 use Rattle.roles_check.specs.RolesFit.{rolesFit}
-use Rattle.btor2_list.specs.Limits.{mostLines, mostNid}
-use Rattle.lowering_refusals.proofs.Within.{neither}
+use Rattle.btor2_list.specs.Limits.{mostLines, mostNid, tallyOut}
+use Rattle.lowering_refusals.proofs.Within.{lines-within}
 use Rattle.join.specs.declared.JoinHeld.{JoinHeld}
 use Rattle.join.specs.Given.{flagStride}
 use Rattle.join.specs.Refusal.{JoinLent, JoinInput, edgesOf, dispatchesOf, joinCountsOut, flagsOut, edgeOut, dispatchOut, joinRoomOut, joinRefusal}
@@ -79,7 +80,7 @@ module _ (l : JoinLent) (h : JoinHeld) (g : JoinInput) where
   pub record Within : Type 0 where
     pub most : lines ≤ mostLines
     pub nids : h .state .tally .nid ≤ mostNid
-    pub held : lines ≤ length (l .list) / stride
+    pub held : lines ≤ capacity (length (l .list))
     pub names : h .state .counts .names ≤ length (l .names)
     pub edges : g .asked .edges * edgeStride ≤ length (g .edges)
     pub dispatches : g .asked .dispatches * dispatchStride ≤ length (g .dispatches)
@@ -88,17 +89,16 @@ module _ (l : JoinLent) (h : JoinHeld) (g : JoinInput) where
 
   pub within : joinCountsOut l h g ≡ false → Within
   within e =
-      let p1 = neither (ltb mostLines lines) _ e in
-      let p2 = neither (ltb mostNid (h .state .tally .nid)) _ (p1 .1) in
-      let p3 = neither (ltb (length (l .list) / stride) lines) _ (p2 .1) in
+      let p3 = neither (tallyOut mostNid (capacity (length (l .list))) lines (h .state .tally .nid)) _ e in
+      let t = lines-within mostNid (capacity (length (l .list))) lines (h .state .tally .nid) (p3 .0) in
       let p4 = neither (ltb (length (l .names)) (h .state .counts .names)) _ (p3 .1) in
       let p5 = neither (ltb (length (g .edges) / edgeStride) (g .asked .edges)) _ (p4 .1) in
       let p6 = neither (ltb (length (g .dispatches) / dispatchStride) (g .asked .dispatches)) _ (p5 .1) in
       let p7 = neither (ltb (length (g .flags) / flagStride) (g .asked .flags)) _ (p6 .1) in
       record {
-        most = ltb-false _ _ (p1 .0);
-        nids = ltb-false _ _ (p2 .0);
-        held = ltb-false _ _ (p3 .0);
+        most = t .most-lines;
+        nids = t .nids;
+        held = t .held;
         names = ltb-false _ _ (p4 .0);
         edges = omega (arith, ltb-false (length (g .edges) / edgeStride) (g .asked .edges) (p5 .0));
         dispatches = omega (arith, ltb-false (length (g .dispatches) / dispatchStride) (g .asked .dispatches) (p6 .0));

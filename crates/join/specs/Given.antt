@@ -1,11 +1,11 @@
 -- What a join is given, in lent words.
 use Prim.Native.Nat.{ℕ, _-_, _^_}
-use mathlib.Core.Bool.{cond}
-use mathlib.Core.List.{List, [], _∷_}
+use mathlib.Core.Bool.{Bool, cond}
+use mathlib.Core.List.{List}
 use lib.Dec.{eqb}
 use lib.ListN.{getD}
 use Rattle.edges.specs.Edges.{edgeStride, dispatchStride}
-use Rattle.btor2_list.specs.Records.{recordsIn}
+use Rattle.btor2_list.specs.Records.{recordsIn, firstGiven}
 use Rattle.join.specs.Program.{Edge, Dispatch}
 
 -- an edge is four words: to, from, origin, condition; `to` is not looked at
@@ -41,9 +41,11 @@ abbrev pub flagsIn : ℕ → List ℕ → List Flag
 flagsIn n ws = recordsIn flagStride flagIn n ws
 
 -- "The first flag given for an address counts"
-unfoldable pub flagFor : List Flag → ℕ → ℕ
-flagFor [] address = noFlag
-flagFor (x ∷ xs) address = cond (eqb (x .address) address) (x .place) (flagFor xs address)
+abbrev pub forAddress : ℕ → Flag → Bool
+forAddress address x = eqb (x .address) address
+
+abbrev pub flagFor : List Flag → ℕ → ℕ
+flagFor xs address = firstGiven noFlag (forAddress address) (λ x. x .place) xs
 
 -- the dynamic flags are those of x1 to x31; one that is not there is no flag
 abbrev pub dynamicCount : ℕ

@@ -5,9 +5,9 @@ use mathlib.Core.Bool.{cond}
 use lib.Dec.{eqb}
 use lib.ListN.{length}
 use lib.Seq.{sets}
+use Rattle.builder.specs.declared.Tally.{Tally}
 use Rattle.builder.specs.Append.{at}
 use Rattle.program.specs.Prog.{Run, exec}
-use Rattle.lowering_refusals.specs.declared.Counts.{Counts}
 use Rattle.control_flow.specs.Listed.{Listed, listed, appendListed}
 use Rattle.join.specs.declared.JoinHeld.{JoinHeld}
 use Rattle.join.specs.Program.{namesOf}
@@ -23,20 +23,22 @@ pub record JoinAnswer : Type 0 where
 abbrev pub joinAnswer : ℕ → ℕ → JoinHeld → JoinLent → JoinAnswer
 joinAnswer n flow h l = record { refusal = n; flow = flow; held = h; lent = l }
 
-abbrev pub withNames : Counts → ℕ → Counts
-withNames c n = record { names = n; edges = c .edges; dispatches = c .dispatches; bads = c .bads }
+-- what passes on: no role changes, and of the counts that of our names alone
+abbrev pub heldAfter : JoinHeld → Tally → ℕ → ℕ → JoinHeld
+heldAfter h t names sequentials =
+    let c = h .state .counts in
+    record {
+      state = record { tally = t; counts = record { names = names; edges = c .edges; dispatches = c .dispatches; bads = c .bads }; roles = h .state .roles };
+      sequentials = sequentials;
+    }
 
 -- what an accepted call gives, from the run of its program
 unfoldable pub joinSettled : JoinLent → JoinHeld → JoinInput → Run Listed ℕ → JoinAnswer
 joinSettled l h g r =
     let names = namesOf (edgesOf g) in
-    let c = h .state .counts in
-    joinAnswer 0 (r .value)
-    (record {
-      state = record { tally = r .state .store .tally; counts = withNames c (c .names + length names); roles = h .state .roles };
-      sequentials = r .state .count;
-    })
-    (joinLent (r .state .store .words) (sets (l .names) (c .names) names) (r .state .sequentials))
+    let used = h .state .counts .names in
+    joinAnswer 0 (r .value) (heldAfter h (r .state .store .tally) (used + length names) (r .state .count))
+    (joinLent (r .state .store .words) (sets (l .names) used names) (r .state .sequentials))
 
 -- a refused call gives its number, and all as it was
 abbrev pub joinRefused : ℕ → JoinLent → JoinHeld → JoinInput → JoinAnswer

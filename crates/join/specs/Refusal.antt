@@ -7,7 +7,7 @@ use lib.Dec.{eqb, ltb}
 use lib.ListN.{length}
 use Rattle.btor2.specs.declared.NodeType.the-variants.{Bit, Word}
 use Rattle.btor2.specs.Sort.{sortNumber}
-use Rattle.btor2_list.specs.Record.{stride}
+use Rattle.btor2_list.specs.Record.{capacity}
 use Rattle.btor2_list.specs.Look.{lookAt}
 use Rattle.edges.specs.Edges.{edgeStride, branchOrigin, syscallOrigin, dispatchStride}
 use Rattle.list_check.specs.Lines.{any}
@@ -18,7 +18,7 @@ use Rattle.roles.specs.Roles.{role, zeroBit, oneBit, registerNode}
 use Rattle.riscv.specs.Format.{lastRegister}
 use Rattle.roles_check.specs.RolesFit.{valueSort, rolesFit}
 use Rattle.lowering_refusals.specs.declared.State.{State}
-use Rattle.btor2_list.specs.Limits.{mostLines, mostNid}
+use Rattle.btor2_list.specs.Limits.{mostLines, mostNid, tallyOut}
 use Rattle.control_flow.specs.ControlFlow.{Bits, Kernel}
 use Rattle.join.specs.declared.Asked.{Asked}
 use Rattle.join.specs.declared.JoinHeld.{JoinHeld}
@@ -77,10 +77,10 @@ joinProgram st g =
 abbrev pub joinCountsOut : JoinLent → JoinHeld → JoinInput → Bool
 joinCountsOut l h g =
     let t = h .state .tally in
-    ltb mostLines (t .lines) || (ltb mostNid (t .nid) || (ltb (length (l .list) / stride) (t .lines)
+    tallyOut mostNid (capacity (length (l .list))) (t .lines) (t .nid)
     || (ltb (length (l .names)) (h .state .counts .names) || (ltb (length (g .edges) / edgeStride) (g .asked .edges)
     || (ltb (length (g .dispatches) / dispatchStride) (g .asked .dispatches) || (ltb (length (g .flags) / flagStride) (g .asked .flags)
-    || ltb (length (l .sequentials)) (h .sequentials)))))))
+    || ltb (length (l .sequentials)) (h .sequentials)))))
 
 -- ---- 15 and 16, on the first n lines of the list's words
 
@@ -121,7 +121,7 @@ joinLineCount st g = length (linesOf (placeAfter (st .tally .lines)) 0 (joinProg
 unfoldable pub joinRoomOut : JoinLent → JoinHeld → JoinInput → Bool
 joinRoomOut l h g =
     let lines = h .state .tally .lines + joinLineCount (h .state) g in
-    ltb mostLines lines || (ltb (length (l .list) / stride) lines || (ltb (length (l .names)) (h .state .counts .names + length (namesOf (edgesOf g)))
+    ltb mostLines lines || (ltb (capacity (length (l .list))) lines || (ltb (length (l .names)) (h .state .counts .names + length (namesOf (edgesOf g)))
     || ltb (length (l .sequentials)) (h .sequentials + nextsOf (edgesOf g))))
 
 unfoldable pub joinRefusal : JoinLent → JoinHeld → JoinInput → ℕ

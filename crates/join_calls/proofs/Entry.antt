@@ -1,5 +1,5 @@
 -- What the tests of a join's entry tell. Assumes nothing.
-use Prim.Native.Nat.{ℕ, _+_, _/_, _≤_, _<_, _^_}
+use Prim.Native.Nat.{ℕ, _+_, _≤_, _<_, _^_}
 use mathlib.Core.Path.{_≡_, refl, sym, ap, _∙_}
 use mathlib.Core.Bool.{Bool, true, false, cond, not, _&&_, _||_}
 use mathlib.Core.List.{List, [], _∷_}
@@ -7,8 +7,9 @@ use native.Mathlib.Omega.{arith}
 use borrow.Author.Tests.{le-ltb, ltb-true, ltb-false, eqb-true}
 use lib.Dec.{eqb, ltb}
 use lib.ListN.{length}
+use Rattle.bitvec.proofs.Truth.{neither}
 use Rattle.btor2.specs.declared.NodeRef.{NodeRef}
-use Rattle.btor2_list.specs.Record.{stride, holds}
+use Rattle.btor2_list.specs.Record.{holds, capacity}
 use Rattle.btor2_list.specs.Node.{nodeOf}
 use Rattle.btor2_list.specs.declared.Looked.{Looked}
 use Rattle.btor2_list.specs.declared.Looked.the-variants.{Outside}
@@ -16,7 +17,6 @@ use Rattle.btor2_list.specs.Look.{lookAt}
 use Rattle.roles.specs.Roles.{role, zeroBit}
 use Rattle.roles_check.specs.RolesFit.{valueSort, rolesFit}
 use Rattle.btor2_list.specs.Limits.{mostLines}
-use Rattle.lowering_refusals.proofs.Within.{neither}
 use Rattle.state_words.specs.Words.{stateWords, rolesIn, stateOf, stateIn, withState, countsStored}
 use Rattle.join.specs.declared.JoinHeld.{JoinHeld}
 use Rattle.join.specs.Program.{namesOf, nextsOf}
@@ -56,7 +56,7 @@ unfolding joinRoomOut
 counts-fit l h g a b e =
     let lines = h .state .tally .lines + joinLineCount (h .state) g in
     let p = neither (ltb mostLines lines) _ e in
-    let q = neither (ltb (length (l .list) / stride) lines) _ (p .1) in
+    let q = neither (ltb (capacity (length (l .list))) lines) _ (p .1) in
     let r = neither (ltb (length (l .names)) (h .state .counts .names + length (namesOf (edgesOf g)))) _ (q .1) in
     record {
       names = omega (arith, ltb-false (length (l .names)) (h .state .counts .names + length (namesOf (edgesOf g))) (r .0));

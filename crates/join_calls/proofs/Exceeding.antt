@@ -1,7 +1,7 @@
 -- The room that edges leave, one after the other. Assumes nothing.
 use Prim.Native.Nat.{ℕ, _+_, _-_, _*_, _≤_, _<_}
 use mathlib.Core.Path.{_≡_, refl, sym}
-use mathlib.Core.Bool.{Bool, true, false, _||_, or-assoc, or-true, or-false, true≢false}
+use mathlib.Core.Bool.{Bool, true, false, _||_, or-assoc, or-true, or-false}
 use mathlib.Core.List.{List, [], _∷_}
 use native.Mathlib.Nat.{add-assoc, zero-add}
 use native.Mathlib.Omega.{arith}
@@ -9,6 +9,7 @@ use borrow.Author.Tests.{lt-ltb, le-ltb, ltb-true, ltb-false}
 use lib.Dec.{ltb}
 use lib.ListN.{length, length-append, getD, drop}
 use lib.Seq.{getD-drop}
+use Rattle.bitvec.proofs.Truth.{neither}
 use Rattle.join.specs.Program.{Edge, edgeName, namesOf, nextsBy, nextsOf}
 use Rattle.join.specs.Given.{edgeIn, edgesIn}
 use Rattle.join_calls.specs.declared.room.Left.{Left}
@@ -59,10 +60,6 @@ pub record Roomy (l : Left) (origin from : ℕ) : Type 0 where
   pub lines : edgeLines origin (l .zero) ≤ l .lines
   pub names : length (edgeName origin from) ≤ l .names
   pub sequentials : nextsBy origin ≤ l .sequentials
-
-neither : (a b : Bool) → (a || b) ≡ false → (a ≡ false) × (b ≡ false)
-neither true b h = absurd (true≢false h)
-neither false b h = (refl, h)
 
 pub roomy : (l : Left) (origin from : ℕ) → edgeExceeds l origin from ≡ false → Roomy l origin from
 roomy l origin from h =

@@ -1,5 +1,5 @@
 -- The lines of a join, counted. Assumes nothing.
-use Prim.Native.Nat.{ℕ, zero, suc, _+_, _-_, _*_, _/_, _≤_, _<_, min}
+use Prim.Native.Nat.{ℕ, zero, suc, _+_, _-_, _*_, _≤_, _<_, min}
 use mathlib.Core.Path.{_≡_, refl, sym, ap, ap₂, _∙_}
 use mathlib.Core.Bool.{Bool, true, false, cond, _&&_, _||_, and-false, or-assoc}
 use mathlib.Core.List.{List, [], _∷_, _++_}
@@ -24,7 +24,7 @@ use Rattle.join.specs.declared.JoinHeld.{JoinHeld}
 use Rattle.lowering_refusals.specs.declared.State.{State}
 use Rattle.btor2_list.specs.Limits.{mostLines}
 use Rattle.roles.specs.Roles.{registerNode}
-use Rattle.btor2_list.specs.Record.{stride}
+use Rattle.btor2_list.specs.Record.{capacity}
 use Rattle.join_calls.specs.Room.{edgeLines, edgesLines, zeroAfter, zeroAfterAll, dispatchLines, exceeding}
 use Rattle.join_calls.specs.Entry.{leftOf}
 use Rattle.join_calls.proofs.Exceeding.{ltb-add}
@@ -168,10 +168,10 @@ counted st g below =
     rw (dispatches-length (g .asked .dispatches) (g .dispatches)) at
     (joined (st .tally .lines) (zeroIn st) below (bitsIn st) (λ p. refl) (kernelIn g) (flagOf g) (λ r. registerNode (st .roles) r .0) (dynamicFor (g .dynamics)) (edgesOf g) (dispatchesOf g) 0 (st .counts .names) (g .asked .flow .0))
 
-pub exceeds-room : (l : JoinLent) (h : JoinHeld) (g : JoinInput) → zeroIn (h .state) < h .state .tally .lines → h .state .tally .lines ≤ mostLines → h .state .tally .lines ≤ length (l .list) / stride
+pub exceeds-room : (l : JoinLent) (h : JoinHeld) (g : JoinInput) → zeroIn (h .state) < h .state .tally .lines → h .state .tally .lines ≤ mostLines → h .state .tally .lines ≤ capacity (length (l .list))
     → h .state .counts .names ≤ length (l .names) → h .sequentials ≤ length (l .sequentials)
-    → exceeding (λ a. eqb (flagOf g a) (zeroIn (h .state))) (leftOf (length (l .list) / stride) (length (l .names)) (length (l .sequentials)) h (g .asked)) (edgesOf g) (g .asked .dispatches) ≡ joinRoomOut l h g
+    → exceeding (λ a. eqb (flagOf g a) (zeroIn (h .state))) (leftOf (capacity (length (l .list))) (length (l .names)) (length (l .sequentials)) h (g .asked)) (edgesOf g) (g .asked .dispatches) ≡ joinRoomOut l h g
 unfolding exceeding joinRoomOut
 exceeds-room l h g below most room names sequentials =
     rw (counted (h .state) g below)
-    (room-left (length (l .list) / stride) mostLines (h .state .tally .lines) _ (length (l .names)) (h .state .counts .names) (length (namesOf (edgesOf g))) (length (l .sequentials)) (h .sequentials) (nextsOf (edgesOf g)) room most names sequentials)
+    (room-left (capacity (length (l .list))) mostLines (h .state .tally .lines) _ (length (l .names)) (h .state .counts .names) (length (namesOf (edgesOf g))) (length (l .sequentials)) (h .sequentials) (nextsOf (edgesOf g)) room most names sequentials)

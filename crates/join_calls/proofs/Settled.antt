@@ -16,10 +16,10 @@ use Rattle.join.specs.declared.JoinHeld.{JoinHeld}
 use Rattle.join.specs.Program.{Dispatch, namesOf, nextsOf, joinEdges, joinDispatches, joinAddress}
 use Rattle.join.specs.Given.{dynamicFor}
 use Rattle.join.specs.Refusal.{JoinLent, joinLent, JoinInput, edgesOf, dispatchesOf, flagOf, bitsIn, kernelIn, joinProgram}
-use Rattle.join.specs.Join.{joinAnswer, joinSettled, joinStore}
+use Rattle.join.specs.Join.{joinAnswer, heldAfter, joinSettled, joinStore}
 use Rattle.join_calls.specs.declared.lines.Joining.{Joining}
 use Rattle.join_calls.specs.Steps.{Joins}
-use Rattle.join_calls.specs.Entry.{begun, heldAfter}
+use Rattle.join_calls.specs.Entry.{begun}
 
 quiet-dispatches : (b : Bits ℕ) (registers dynamics : ℕ → ℕ) (ds : List (Dispatch ℕ)) (flow : ℕ) → Quiet (joinDispatches b registers dynamics ds flow)
 unfolding joinDispatches

@@ -4,17 +4,15 @@ use mathlib.Core.Bool.{Bool, _||_}
 use mathlib.Core.List.{List}
 use lib.Dec.{eqb, ltb}
 use lib.ListN.{length}
-use Rattle.btor2_list.specs.Record.{stride}
-use Rattle.builder.specs.declared.Tally.{Tally}
+use Rattle.btor2_list.specs.Record.{capacity}
 use Rattle.edges.specs.Edges.{edgeStride, dispatchStride}
-use Rattle.btor2_list.specs.Limits.{mostLines, mostNid}
+use Rattle.btor2_list.specs.Limits.{mostLines, mostNid, tallyOut}
 use Rattle.control_flow.specs.declared.Kernel.{Kernel}
 use Rattle.state_words.specs.Words.{stateIn}
 use Rattle.join.specs.declared.Asked.{Asked}
 use Rattle.join.specs.declared.JoinHeld.{JoinHeld}
 use Rattle.join.specs.Given.{flagStride}
 use Rattle.join.specs.Refusal.{JoinInput, edgesOf, zeroIn}
-use Rattle.join.specs.Join.{withNames}
 use Rattle.join_calls.specs.declared.lines.Joining.{Joining}
 use Rattle.join_calls.specs.declared.room.Left.{Left}
 use Rattle.join_calls.specs.Steps.{Room}
@@ -27,10 +25,10 @@ joinHeldIn ws used = record { state = stateIn ws; sequentials = used }
 abbrev pub countsOutBy : ℕ → ℕ → ℕ → ℕ → ℕ → ℕ → JoinHeld → Asked → Bool
 countsOutBy list names sequentials edges dispatches flags h a =
     let t = h .state .tally in
-    ltb mostLines (t .lines) || (ltb mostNid (t .nid) || (ltb (list / stride) (t .lines)
+    tallyOut mostNid (capacity list) (t .lines) (t .nid)
     || (ltb names (h .state .counts .names) || (ltb (edges / edgeStride) (a .edges)
     || (ltb (dispatches / dispatchStride) (a .dispatches) || (ltb (flags / flagStride) (a .flags)
-    || ltb sequentials (h .sequentials)))))))
+    || ltb sequentials (h .sequentials)))))
 
 -- what is in use is within storage that holds so many lines, bytes and sequentials
 pub record Within (room bytes places : ℕ) (h : JoinHeld) : Type 0 where
@@ -54,13 +52,6 @@ kernelBy a = record { mode = a .mode; none = a .none }
 -- where a join begins
 abbrev pub begun : JoinHeld → Asked → Joining
 begun h a = record { tally = h .state .tally; sequentials = h .sequentials; names = h .state .counts .names; flow = a .flow }
-
--- what passes on: no role changes, and of the counts that of our names alone
-abbrev pub heldAfter : JoinHeld → Tally → ℕ → ℕ → JoinHeld
-heldAfter h t names sequentials = record {
-  state = record { tally = t; counts = withNames (h .state .counts) names; roles = h .state .roles };
-  sequentials = sequentials;
-}
 
 -- what an accepted call rests on: the given counts are within their storage, and the counts after it fit
 pub record ReadyToJoin (h : JoinHeld) (g : JoinInput) : Type 0 where

@@ -6,7 +6,8 @@ mod room;
 use btor2::NodeRef;
 use btor2_list::MOST_LINES;
 use btor2_list::MOST_NID;
-use btor2_list::STRIDE;
+use btor2_list::capacity;
+use btor2_list::tally_out;
 use builder::Made;
 use builder::Tally;
 use control_flow::Bits;
@@ -26,6 +27,7 @@ use lowering_refusals::State;
 use refusals::dispatches_out;
 use refusals::edges_out;
 use refusals::flags_out;
+use roles::ROLES;
 use room::Left;
 use room::room_exceeded;
 use state_words::STATE_WORDS;
@@ -37,11 +39,12 @@ ghost use Rattle.control_flow.specs.Listed.{appendListed};
 ghost use Rattle.program.specs.Prog.{exec};
 ghost use Rattle.roles.specs.Roles.{role, zeroBit, roleCount};
 ghost use Rattle.btor2_list.specs.Limits.{mostLines};
+ghost use Rattle.btor2_list.specs.Record.{capacity as capacityOf};
 ghost use Rattle.join.specs.Refusal.{joinLent, joinInput, joinProgram, joinRefusal};
-ghost use Rattle.join.specs.Join.{joinAnswer, joinStore, joinSettled, joining};
+ghost use Rattle.join.specs.Join.{joinAnswer, heldAfter, joinStore, joinSettled, joining};
 ghost use Rattle.join.specs.Words.{givenJoin, joiningWords};
 ghost use Rattle.state_words.specs.Words.{countsStored};
-ghost use Rattle.join_calls.specs.Entry.{joinHeldIn, countsOutBy, Within, leftOf, kernelBy, begun, heldAfter, ReadyToJoin};
+ghost use Rattle.join_calls.specs.Entry.{joinHeldIn, countsOutBy, Within, leftOf, kernelBy, begun, ReadyToJoin};
 
 // Joins one address's edges, then its dispatches, into a flow. What is held says how much of the list, our name area and the sequentials is in
 // use, the next identifier and the roles. An edge has four words, a dispatch and a flag two each; the dynamic flags are those of x1 to x31. A
@@ -217,7 +220,7 @@ fn refuse(
         return 16;
     }
     let zero = zero_bit(places);
-    let left = room_left(list.len() / STRIDE, names, sequentials, a, h);
+    let left = room_left(list.len(), names, sequentials, a, h);
     if room_exceeded(edges, a.edges, flags, a.flags, a.dispatches, zero, left) {
         return 8;
     }
@@ -225,7 +228,7 @@ fn refuse(
 }
 
 // The zero bit, and how many roles their type gives.
-fn zero_bit(places: [NodeRef; 79]) -> NodeRef
+fn zero_bit(places: [NodeRef; ROLES]) -> NodeRef
     ensures is { λ r. ⌜ r ≡ role places zeroBit ⌝ }
     ensures size { λ r. ⌜ length places ≡ roleCount ⌝ }
 {
@@ -248,19 +251,17 @@ fn counts_out(
     let state = h.state;
     let t = state.tally;
     let c = state.counts;
-    (MOST_LINES < t.lines)
-        | ((MOST_NID < t.nid)
-            | ((list / STRIDE < t.lines)
-                | ((names < c.names)
-                    | ((edges / EDGE < a.edges)
-                        | ((dispatches / DISPATCH < a.dispatches)
-                            | ((flags / FLAG < a.flags) | (sequentials < h.sequentials)))))))
+    tally_out(MOST_NID, capacity(list), t.lines, t.nid)
+        | ((names < c.names)
+            | ((edges / EDGE < a.edges)
+                | ((dispatches / DISPATCH < a.dispatches)
+                    | ((flags / FLAG < a.flags) | (sequentials < h.sequentials)))))
 }
 
-// What room is left of storage that holds so many lines, bytes and sequentials.
-fn room_left(lines: usize, names: usize, sequentials: usize, a: Asked, h: JoinHeld) -> Left
-    requires { ⌜ Within lines names sequentials h ⌝ }
-    ensures { λ r. ⌜ r ≡ leftOf lines names sequentials h a ⌝ }
+// What room is left of storage of these lengths.
+fn room_left(list: usize, names: usize, sequentials: usize, a: Asked, h: JoinHeld) -> Left
+    requires { ⌜ Within (capacityOf list) names sequentials h ⌝ }
+    ensures { λ r. ⌜ r ≡ leftOf (capacityOf list) names sequentials h a ⌝ }
 {
     let state = h.state;
     let t = state.tally;
@@ -269,7 +270,7 @@ fn room_left(lines: usize, names: usize, sequentials: usize, a: Asked, h: JoinHe
     let zero = places[roles::ZERO_BIT];
     let flow = a.flow;
     Left {
-        lines: at_most(lines) - t.lines,
+        lines: at_most(capacity(list)) - t.lines,
         names: names - c.names,
         sequentials: sequentials - h.sequentials,
         zero: flow.0 == zero.0,

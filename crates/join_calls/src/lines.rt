@@ -12,6 +12,7 @@ use control_flow::control_flow_from_regular;
 use control_flow::flag_name_len;
 use control_flow::put_flag_name;
 use riscv::LAST_REGISTER;
+use roles::ROLES;
 ghost use mathlib.Core.Path.{_≡_};
 ghost use Prim.Native.Nat.{_+_, _*_, _≤_};
 ghost use lib.ListN.{length, drop};
@@ -226,7 +227,7 @@ fn join_dispatch(
     list: &mut [u64],
     dispatches: &[u64],
     done: usize,
-    roles: [NodeRef; 79],
+    roles: [NodeRef; ROLES],
     dynamics: &[u64; 31],
     b: Bits,
     m: Made,
@@ -243,7 +244,7 @@ fn join_dispatch(
 }
 
 // The node of a register; x0's for what is no register.
-fn register_node(roles: [NodeRef; 79], r: u64) -> NodeRef
+fn register_node(roles: [NodeRef; ROLES], r: u64) -> NodeRef
     ensures { λ x. ⌜ x ≡ registerNode roles r ⌝ }
 {
     if r > LAST_REGISTER {
@@ -258,7 +259,7 @@ pub(crate) fn join_dispatches(
     list: &mut [u64],
     dispatches: &[u64],
     number: usize,
-    roles: [NodeRef; 79],
+    roles: [NodeRef; ROLES],
     dynamics: &[u64; 31],
     b: Bits,
     m: Made,

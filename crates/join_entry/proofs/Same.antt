@@ -8,8 +8,8 @@ use borrow.Author.Tests.{ltb-true, ltb-false, lt-ltb, le-ltb}
 use lib.Dec.{ltb}
 use lib.ListN.{length, take}
 use lib.Seq.{sets, length-sets}
+use Rattle.bitvec.proofs.Truth.{neither}
 use Rattle.edges.specs.Edges.{edgeStride}
-use Rattle.lowering_refusals.proofs.Within.{neither}
 use Rattle.join.specs.declared.Asked.{Asked}
 use Rattle.join.specs.declared.JoinHeld.{JoinHeld}
 use Rattle.join.specs.Given.{edgesIn}

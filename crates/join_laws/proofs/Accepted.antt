@@ -1,5 +1,5 @@
 -- An accepted join: its lines stand after the others, and its flow means what it should. Assumes nothing.
-use Prim.Native.Nat.{ℕ, zero, suc, _+_, _*_, _/_, _-_, _≤_, _<_, _^_}
+use Prim.Native.Nat.{ℕ, zero, suc, _+_, _-_, _≤_, _<_, _^_}
 use native.Mathlib.Omega.{arith}
 use native.Mathlib.Nat.{add-zero}
 use mathlib.Core.Path.{_≡_, refl, sym, _∙_, ap, subst}
@@ -9,6 +9,7 @@ use borrow.Author.Tests.{ltb-false, ltb-true, lt-ltb, le-ltb, eqb-true, eqb-fals
 use lib.Dec.{T, eqb, ltb}
 use lib.ListN.{length, getD, drop}
 use lib.Seq.{length-sets}
+use Rattle.bitvec.proofs.Truth.{neither}
 use Rattle.btor2.specs.declared.NodeType.the-variants.{Bit as B1, Word as W}
 use Rattle.btor2.specs.Op.{Op}
 use Rattle.btor2.specs.SortRule.{meetsSortRule}
@@ -16,7 +17,7 @@ use Rattle.btor2.proofs.LineIs.{lineIs}
 use Rattle.btor2.specs.Value.{Env, value}
 use Rattle.btor2.proofs.Range.{value-fits}
 use Rattle.btor2.proofs.SortRule.{line-kept}
-use Rattle.btor2_list.specs.Record.{stride}
+use Rattle.btor2_list.specs.Record.{capacity, wordsFor}
 use Rattle.btor2_list.specs.Look.{lookAt}
 use Rattle.btor2_list.specs.View.{view}
 use Rattle.btor2_list.proofs.Stored.{below, above}
@@ -29,7 +30,6 @@ use Rattle.riscv.specs.Format.{lastRegister}
 use Rattle.roles_check.specs.RolesFit.{valueSort, rolesFit}
 use Rattle.edges.specs.Edges.{branchOrigin, syscallOrigin}
 use Rattle.btor2_list.specs.Limits.{mostLines, mostNid}
-use Rattle.lowering_refusals.proofs.Within.{neither}
 use Rattle.program.specs.Lines.{linesOf, placeAfter}
 use Rattle.program.proofs.Result.{resultOf}
 use Rattle.lowering_laws.specs.Lines.{numbered, taking}
@@ -43,6 +43,7 @@ use Rattle.join.specs.Program.{Edge, Dispatch, joinAddress}
 use Rattle.btor2_list.specs.Records.{recordsIn}
 use Rattle.list_check.specs.Lines.{any}
 use Rattle.join.specs.Given.{dynamicCount, dynamicsIn, dynamicFor, noFlag}
+use Rattle.control_flow.specs.ControlFlow.{Bits, Kernel}
 use Rattle.control_flow.specs.Listed.{Listed, listed, appendListed}
 use Rattle.join.specs.Program.{namesOf, nextsOf}
 use Rattle.control_flow.proofs.Lists.{forgets}
@@ -99,7 +100,7 @@ module _ (l : JoinLent) (h : JoinHeld) (g : JoinInput) (e : joinRefusal l h g �
   its : Passed l h g
   its = passed l h g e
 
-  pub held : lines * stride ≤ length (l .list)
+  pub held : wordsFor lines ≤ length (l .list)
   held = omega (arith, its .counts .held)
 
   -- the lines fit
@@ -107,9 +108,9 @@ module _ (l : JoinLent) (h : JoinHeld) (g : JoinInput) (e : joinRefusal l h g �
   unfolding joinRoomOut joinLineCount
   room =
       let p = neither (ltb mostLines (lines + joinLineCount (h .state) g)) _ (its .room) in
-      let q = neither (ltb (length (l .list) / stride) (lines + joinLineCount (h .state) g)) _ (p .1) in
+      let q = neither (ltb (capacity (length (l .list))) (lines + joinLineCount (h .state) g)) _ (p .1) in
       record {
-        lines = ltb-false (length (l .list) / stride) (lines + joinLineCount (h .state) g) (q .0);
+        lines = ltb-false (capacity (length (l .list))) (lines + joinLineCount (h .state) g) (q .0);
         nids = omega (arith, its .counts .nids, ltb-false mostLines (lines + joinLineCount (h .state) g) (p .0), taking-most (linesOf (placeAfter lines) 0 (joinProgram (h .state) g)));
       }
 
@@ -125,6 +126,25 @@ module _ (l : JoinLent) (h : JoinHeld) (g : JoinInput) (sorted : T (meetsSortRul
 
   abbrev xs : List (Op ℕ)
   xs = operators (l .list) n
+
+  -- the parts of its program
+  abbrev itsBits : Bits ℕ
+  itsBits = bitsIn (h .state)
+
+  abbrev itsKernel : Kernel ℕ
+  itsKernel = kernelIn g
+
+  abbrev flagAt : ℕ → ℕ
+  flagAt = flagOf g
+
+  abbrev nodeAt : ℕ → ℕ
+  nodeAt r = registerNode (h .state .roles) r .0
+
+  abbrev dynamicAt : ℕ → ℕ
+  dynamicAt = dynamicFor (g .dynamics)
+
+  abbrev begun : ℕ
+  begun = g .asked .flow .0
 
   -- ---- what it refers to
 
@@ -151,44 +171,59 @@ module _ (l : JoinLent) (h : JoinHeld) (g : JoinInput) (sorted : T (meetsSortRul
   its-bit (suc zero) m = fit 1 (omega arith)
   its-bit (suc (suc j)) m = absurd (omega arith)
 
+  -- ---- edges and dispatches that 15 and 16 do not refuse
+
+  record EdgesIn (x : Edge ℕ) (es : List (Edge ℕ)) : Type 0 where
+    flag : bitOut (l .list) n (flagAt (x .from)) ≡ false
+    condition : x .origin ≡ branchOrigin → bitOut (l .list) n (x .condition) ≡ false
+    flags : any (unflagged (l .list) n flagAt) es ≡ false
+    rest : any (edgeOut (l .list) n) es ≡ false
+
+  edges-in : (x : Edge ℕ) (es : List (Edge ℕ)) → any (unflagged (l .list) n flagAt) (x ∷ es) ≡ false → any (edgeOut (l .list) n) (x ∷ es) ≡ false → EdgesIn x es
+  edges-in x es u o =
+      let a = neither (bitOut (l .list) n (flagAt (x .from))) _ u in
+      let c = neither (edgeOut (l .list) n x) _ o in
+      let d = neither (ltb syscallOrigin (x .origin)) _ (c .0) in
+      record { flag = a .0; condition = λ q. rw (eq-eqb (x .origin) branchOrigin q) at (d .1); flags = a .1; rest = c .1 }
+
+  record DispatchesIn (x : Dispatch ℕ) (ds : List (Dispatch ℕ)) : Type 0 where
+    dynamic : bitOut (l .list) n (dynamicAt (x .register)) ≡ false
+    address : wordOut (l .list) n (x .address) ≡ false
+    rest : any (dispatchOut (l .list) n) ds ≡ false
+
+  dispatches-in : (x : Dispatch ℕ) (ds : List (Dispatch ℕ)) → any (dispatchOut (l .list) n) (x ∷ ds) ≡ false → any (bitOut (l .list) n) (dynamicsIn (g .dynamics)) ≡ false → DispatchesIn x ds
+  dispatches-in x ds o d =
+      let a = neither (dispatchOut (l .list) n x) _ o in
+      let b = neither (eqb (x .register) 0) _ (a .0) in
+      let c = neither (ltb lastRegister (x .register)) _ (b .1) in
+      record { dynamic = dynamic-in (l .list) n (g .dynamics) d (x .register) (b .0) (ltb-false 31 (x .register) (c .0)); address = c .1; rest = a .1 }
+
   -- ---- the sort rule
 
-  sorts : (es : List (Edge ℕ)) → any (unflagged (l .list) n (flagOf g)) es ≡ false → any (edgeOut (l .list) n) es ≡ false → S.AllSorts (bitsIn (h .state)) (kernelIn g) (flagOf g) xs es
+  sorts : (es : List (Edge ℕ)) → any (unflagged (l .list) n flagAt) es ≡ false → any (edgeOut (l .list) n) es ≡ false → S.AllSorts itsBits itsKernel flagAt xs es
   sorts [] u o = tt
   sorts (x ∷ es) u o =
-      let a = neither (bitOut (l .list) n (flagOf g (x .from))) _ u in
-      let c = neither (ltb syscallOrigin (x .origin) || (eqb (x .origin) branchOrigin && bitOut (l .list) n (x .condition))) _ o in
-      let d = neither (ltb syscallOrigin (x .origin)) _ (c .0) in (
-        record { flag = is-bit (flagOf g (x .from)) (a .0); condition = λ q. is-bit (x .condition) (rw (eq-eqb (x .origin) branchOrigin q) at (d .1)) },
-        sorts es (a .1) (c .1),
-      )
+      let i = edges-in x es u o in
+      (record { flag = is-bit (flagAt (x .from)) (i .flag); condition = λ q. is-bit (x .condition) (i .condition q) }, sorts es (i .flags) (i .rest))
 
   dispatch-sorts : (ds : List (Dispatch ℕ)) → any (dispatchOut (l .list) n) ds ≡ false → any (bitOut (l .list) n) (dynamicsIn (g .dynamics)) ≡ false
-      → S.AllDispatched (bitsIn (h .state)) (kernelIn g) (flagOf g) (λ r. registerNode (h .state .roles) r .0) (dynamicFor (g .dynamics)) xs ds
+      → S.AllDispatched itsBits itsKernel flagAt nodeAt dynamicAt xs ds
   dispatch-sorts [] o d = tt
   dispatch-sorts (x ∷ ds) o d =
-      let a = neither (eqb (x .register) 0 || (ltb lastRegister (x .register) || wordOut (l .list) n (x .address))) _ o in
-      let b = neither (eqb (x .register) 0) _ (a .0) in
-      let c = neither (ltb lastRegister (x .register)) _ (b .1) in (
-        record {
-          register = its-node (x .register);
-          dynamic = is-bit (dynamicFor (g .dynamics) (x .register)) (dynamic-in (l .list) n (g .dynamics) d (x .register) (b .0) (ltb-false 31 (x .register) (c .0)));
-          address = is-word (x .address) (c .1);
-        },
-        dispatch-sorts ds (a .1) d,
-      )
+      let i = dispatches-in x ds o d in
+      (record { register = its-node (x .register); dynamic = is-bit (dynamicAt (x .register)) (i .dynamic); address = is-word (x .address) (i .address) }, dispatch-sorts ds (i .rest) d)
 
   pub record Flagged : Type 0 where
-    pub edges : any (unflagged (l .list) n (flagOf g)) (edgesOf g) ≡ false
+    pub edges : any (unflagged (l .list) n flagAt) (edgesOf g) ≡ false
     pub mode : bitOut (l .list) n (g .asked .mode .0) ≡ false
     pub none : bitOut (l .list) n (g .asked .none .0) ≡ false
     pub dynamics : any (bitOut (l .list) n) (dynamicsIn (g .dynamics)) ≡ false
-    pub flow : bitOut (l .list) n (g .asked .flow .0) ≡ false
+    pub flow : bitOut (l .list) n begun ≡ false
 
   flagged : Flagged
   unfolding flagsOut
   flagged =
-      let f1 = neither (any (unflagged (l .list) n (flagOf g)) (edgesOf g)) _ (its l h g e .flags) in
+      let f1 = neither (any (unflagged (l .list) n flagAt) (edgesOf g)) _ (its l h g e .flags) in
       let f2 = neither (any (entryOut (l .list) n) (flagsOf g)) _ (f1 .1) in
       let f3 = neither (bitOut (l .list) n (g .asked .mode .0)) _ (f2 .1) in
       let f4 = neither (bitOut (l .list) n (g .asked .none .0)) _ (f3 .1) in
@@ -198,9 +233,9 @@ module _ (l : JoinLent) (h : JoinHeld) (g : JoinInput) (sorted : T (meetsSortRul
   ruled : S.Ruled xs (pushed xs (joinProgram (h .state) g))
   unfolding joinProgram
   ruled =
-      S.joined (bitsIn (h .state)) (kernelIn g) (flagOf g) (λ r. registerNode (h .state .roles) r .0) (dynamicFor (g .dynamics)) xs
+      S.joined itsBits itsKernel flagAt nodeAt dynamicAt xs
       (record { sorted = sorted; zero = its-bit 0 (omega arith); one = its-bit 1 (omega arith); mode = is-bit (g .asked .mode .0) (flagged .mode); none = is-bit (g .asked .none .0) (flagged .none) })
-      (h .state .counts .names) (edgesOf g) (dispatchesOf g) (sorts (edgesOf g) (flagged .edges) (its l h g e .edges)) (dispatch-sorts (dispatchesOf g) (its l h g e .dispatches) (flagged .dynamics)) (g .asked .flow .0) (is-bit (g .asked .flow .0) (flagged .flow))
+      (h .state .counts .names) (edgesOf g) (dispatchesOf g) (sorts (edgesOf g) (flagged .edges) (its l h g e .edges)) (dispatch-sorts (dispatchesOf g) (its l h g e .dispatches) (flagged .dynamics)) begun (is-bit begun (flagged .flow))
 
   -- the lines after it
   as-pushed : (full : Run Listed ℕ) → ran (full .state .store) (full .value) ≡ exec append (at (l .list) (h .state .tally)) (joinProgram (h .state) g)
@@ -213,34 +248,28 @@ module _ (l : JoinLent) (h : JoinHeld) (g : JoinInput) (sorted : T (meetsSortRul
     bit : (p : ℕ) → bitOut (l .list) n p ≡ false → Sd.Bit env xs p
     bit p o = record { place = inside B1 xs p (is-bit p o); bound = value-fits env xs sorted B1 p (is-bit p o) .bits tt }
 
-    sound : (es : List (Edge ℕ)) → any (unflagged (l .list) n (flagOf g)) es ≡ false → any (edgeOut (l .list) n) es ≡ false → Sd.AllSound env (flagOf g) (kernelIn g) xs es
+    sound : (es : List (Edge ℕ)) → any (unflagged (l .list) n flagAt) es ≡ false → any (edgeOut (l .list) n) es ≡ false → Sd.AllSound env flagAt itsKernel xs es
     sound [] u o = tt
     sound (x ∷ es) u o =
-        let a = neither (bitOut (l .list) n (flagOf g (x .from))) _ u in
-        let c = neither (ltb syscallOrigin (x .origin) || (eqb (x .origin) branchOrigin && bitOut (l .list) n (x .condition))) _ o in
-        let d = neither (ltb syscallOrigin (x .origin)) _ (c .0) in (
-          record { flag = bit (flagOf g (x .from)) (a .0); condition = λ q. bit (x .condition) (rw (eq-eqb (x .origin) branchOrigin q) at (d .1)) },
-          sound es (a .1) (c .1),
-        )
+        let i = edges-in x es u o in
+        (record { flag = bit (flagAt (x .from)) (i .flag); condition = λ q. bit (x .condition) (i .condition q) }, sound es (i .flags) (i .rest))
 
     reached : (ds : List (Dispatch ℕ)) → any (dispatchOut (l .list) n) ds ≡ false → any (bitOut (l .list) n) (dynamicsIn (g .dynamics)) ≡ false
-        → Sd.AllReached env (λ r. registerNode (h .state .roles) r .0) (dynamicFor (g .dynamics)) xs ds
+        → Sd.AllReached env nodeAt dynamicAt xs ds
     reached [] o d = tt
     reached (x ∷ ds) o d =
-        let a = neither (eqb (x .register) 0 || (ltb lastRegister (x .register) || wordOut (l .list) n (x .address))) _ o in
-        let b = neither (eqb (x .register) 0) _ (a .0) in
-        let c = neither (ltb lastRegister (x .register)) _ (b .1) in (
+        let i = dispatches-in x ds o d in (
           record {
-            dynamic = bit (dynamicFor (g .dynamics) (x .register)) (dynamic-in (l .list) n (g .dynamics) d (x .register) (b .0) (ltb-false 31 (x .register) (c .0)));
+            dynamic = bit (dynamicAt (x .register)) (i .dynamic);
             register = inside W xs (registerNode (h .state .roles) (x .register) .0) (its-node (x .register));
-            address = inside W xs (x .address) (is-word (x .address) (c .1));
+            address = inside W xs (x .address) (is-word (x .address) (i .address));
           },
-          reached ds (a .1) d,
+          reached ds (i .rest) d,
         )
 
   -- what its values rest on
   module _ (env : Env) (z : ZeroAndOne env l h) where
-    bits : Sd.KnownBits env xs (bitsIn (h .state))
+    bits : Sd.KnownBits env xs itsBits
     bits = record {
       zero = inside B1 xs _ (its-bit 0 (omega arith));
       one = inside B1 xs _ (its-bit 1 (omega arith));
@@ -249,29 +278,29 @@ module _ (l : JoinLent) (h : JoinHeld) (g : JoinInput) (sorted : T (meetsSortRul
       oneValue = z .one;
     }
 
-    all-sound : Sd.AllSound env (flagOf g) (kernelIn g) xs (edgesOf g)
+    all-sound : Sd.AllSound env flagAt itsKernel xs (edgesOf g)
     all-sound = sound env (edgesOf g) (flagged .edges) (its l h g e .edges)
 
-    starts : g .asked .flow .0 < length xs
-    starts = inside B1 xs (g .asked .flow .0) (is-bit (g .asked .flow .0) (flagged .flow))
+    starts : begun < length xs
+    starts = inside B1 xs begun (is-bit begun (flagged .flow))
 
     module _ (full : Run Listed ℕ) (forgot : ran (full .state .store) (full .value) ≡ exec append (at (l .list) (h .state .tally)) (joinProgram (h .state) g)) where
       means-in : Act.on env (operators (full .state .store .words) (full .state .store .tally .lines)) (full .value)
-          ≡ ((Act.anyActive env (flagOf g) (bitsIn (h .state)) (kernelIn g) xs (h .state .counts .names) (edgesOf g) (g .asked .flow .0)
-          || any (Act.activeDispatch env (λ r. registerNode (h .state .roles) r .0) (dynamicFor (g .dynamics)) xs) (dispatchesOf g)) || Act.on env xs (g .asked .flow .0))
+          ≡ ((Act.anyActive env flagAt itsBits itsKernel xs (h .state .counts .names) (edgesOf g) begun
+          || any (Act.activeDispatch env nodeAt dynamicAt xs) (dispatchesOf g)) || Act.on env xs begun)
       unfolding joinProgram
       means-in =
           ap (λ (r : Run (List (Op ℕ)) ℕ). Act.on env (r .state) (r .value)) (as-pushed full forgot)
-          ∙ join-means env xs (bitsIn (h .state)) (kernelIn g) (flagOf g) (λ r. registerNode (h .state .roles) r .0) (dynamicFor (g .dynamics)) (h .state .counts .names) (edgesOf g) (dispatchesOf g) (g .asked .flow .0)
+          ∙ join-means env xs itsBits itsKernel flagAt nodeAt dynamicAt (h .state .counts .names) (edgesOf g) (dispatchesOf g) begun
           bits (bit env (g .asked .none .0) (flagged .none)) all-sound (reached env (dispatchesOf g) (its l h g e .dispatches) (flagged .dynamics)) starts
 
       plain-in : Act.NoSyscall (edgesOf g) → g .asked .dispatches ≡ 0
-          → Act.on env (operators (full .state .store .words) (full .state .store .tally .lines)) (full .value) ≡ (any (Act.activePlain env (flagOf g) xs) (edgesOf g) || Act.on env xs (g .asked .flow .0))
+          → Act.on env (operators (full .state .store .words) (full .state .store .tally .lines)) (full .value) ≡ (any (Act.activePlain env flagAt xs) (edgesOf g) || Act.on env xs begun)
       unfolding joinProgram recordsIn
       plain-in o d =
           ap (λ (r : Run (List (Op ℕ)) ℕ). Act.on env (r .state) (r .value)) (as-pushed full forgot)
           ∙ rw d
-          (plain-means env xs (bitsIn (h .state)) (kernelIn g) (flagOf g) (λ r. registerNode (h .state .roles) r .0) (dynamicFor (g .dynamics)) (h .state .counts .names) (edgesOf g) (g .asked .flow .0)
+          (plain-means env xs itsBits itsKernel flagAt nodeAt dynamicAt (h .state .counts .names) (edgesOf g) begun
           bits (bit env (g .asked .none .0) (flagged .none)) all-sound o starts)
 
   pub accepted : AcceptedJoin l h g (joining l h g)
@@ -282,7 +311,7 @@ module _ (l : JoinLent) (h : JoinHeld) (g : JoinInput) (sorted : T (meetsSortRul
     lines = subst (λ (r : Run Store ℕ). r .state .tally .lines ≡ n + joinLineCount (h .state) g) (sym forgot) ((its-run l h g e) .lines);
     nids = subst (λ (r : Run Store ℕ). r .state .tally .nid ≡ h .state .tally .nid + taking (linesOf (placeAfter n) 0 (joinProgram (h .state) g))) (sym forgot) ((its-run l h g e) .nids);
     roles = refl;
-    list = subst (λ (r : Run Store ℕ). Elsewhere (n * stride) ((n + joinLineCount (h .state) g) * stride) (l .list) (r .state .words)) (sym forgot) (record { size = (its-run l h g e) .size; below = (its-run l h g e) .below; above = (its-run l h g e) .above });
+    list = subst (λ (r : Run Store ℕ). Elsewhere (wordsFor n) (wordsFor (n + joinLineCount (h .state) g)) (l .list) (r .state .words)) (sym forgot) (record { size = (its-run l h g e) .size; below = (its-run l h g e) .below; above = (its-run l h g e) .above });
     names = record {
       size = length-sets (l .names) (h .state .counts .names) (namesOf (edgesOf g));
       below = λ j q. below (namesOf (edgesOf g)) (l .names) (h .state .counts .names) j q;
@@ -307,8 +336,8 @@ module _ (l : JoinLent) (h : JoinHeld) (g : JoinInput) (sorted : T (meetsSortRul
       forgot : ran (full .state .store) (full .value) ≡ exec append (at (l .list) (h .state .tally)) p
       forgot = forgets p (joinStore l h)
 
-      stored-in : full .state .store .tally .lines * stride ≤ length (full .state .store .words)
-      stored-in = subst (λ (r : Run Store ℕ). r .state .tally .lines * stride ≤ length (r .state .words)) (sym forgot) (rw ((its-run l h g e) .lines, (its-run l h g e) .size) (omega (arith, room l h g e .lines)))
+      stored-in : wordsFor (full .state .store .tally .lines) ≤ length (full .state .store .words)
+      stored-in = subst (λ (r : Run Store ℕ). wordsFor (r .state .tally .lines) ≤ length (r .state .words)) (sym forgot) (rw ((its-run l h g e) .lines, (its-run l h g e) .size) (omega (arith, room l h g e .lines)))
 
       extended : operators (full .state .store .words) (full .state .store .tally .lines) ≡ xs ++ ruled .more
       extended = ap (λ (r : Run (List (Op ℕ)) ℕ). r .state) (as-pushed full forgot) ∙ ruled .extends

@@ -1,5 +1,5 @@
 -- What an accepted join does to the list and what its flow means.
-use Prim.Native.Nat.{ℕ, _+_, _*_, _≤_, _<_}
+use Prim.Native.Nat.{ℕ, _+_, _≤_, _<_}
 use mathlib.Core.Path.{_≡_}
 use mathlib.Core.Bool.{true, _||_}
 use mathlib.Core.List.{List, [], _++_}
@@ -8,7 +8,7 @@ use lib.ListN.{length}
 use Rattle.btor2.specs.Op.{Op}
 use Rattle.btor2.specs.SortRule.{meetsSortRule}
 use Rattle.btor2.specs.Value.{Env, value}
-use Rattle.btor2_list.specs.Record.{stride}
+use Rattle.btor2_list.specs.Record.{wordsFor}
 use Rattle.btor2_list.specs.View.{view}
 use Rattle.list_check.specs.Lines.{any}
 use Rattle.program.specs.Lines.{linesOf, placeAfter}
@@ -46,9 +46,9 @@ module _ (l : JoinLent) (h : JoinHeld) (g : JoinInput) where
     pub roles : a .held .state .roles ≡ h .state .roles
     -- and they fit again, so that another call can follow
     pub fit : rolesFit (a .lent .list) (a .held .state .tally .lines) 0 (a .held .state .roles) ≡ true
-    pub stored : a .held .state .tally .lines * stride ≤ length (a .lent .list)
+    pub stored : wordsFor (a .held .state .tally .lines) ≤ length (a .lent .list)
     -- what is lent changes after what is in use, as far as is counted, and nowhere else
-    pub list : Elsewhere (h .state .tally .lines * stride) ((h .state .tally .lines + joinLineCount (h .state) g) * stride) (l .list) (a .lent .list)
+    pub list : Elsewhere (wordsFor (h .state .tally .lines)) (wordsFor (h .state .tally .lines + joinLineCount (h .state) g)) (l .list) (a .lent .list)
     pub names : Elsewhere (h .state .counts .names) (h .state .counts .names + length (namesOf (edgesOf g))) (l .names) (a .lent .names)
     pub sequentials : Elsewhere (h .sequentials) (a .held .sequentials) (l .sequentials) (a .lent .sequentials)
     -- every line meets the sort rule, and no value before changes

@@ -1,16 +1,16 @@
 -- The text of a list's lines, whose operands are places of the list.
-use Prim.Native.Nat.{ℕ, _/_, min}
+use Prim.Native.Nat.{ℕ, min}
 use mathlib.Core.List.{List, [], _∷_, _++_}
 use lib.ListN.{length, getD, take, drop}
 use Rattle.btor2.specs.Op.{unknown, mapOp}
-use Rattle.btor2_list.specs.Record.{stride}
+use Rattle.btor2_list.specs.Record.{capacity}
 use Rattle.btor2_list.specs.Node.{Node, node}
 use Rattle.btor2_list.specs.View.{view}
 use Rattle.record_text.specs.Line.{lineText, printedName}
 
 -- the lines of a list of n lines, as far as the lent words reach
 abbrev pub nodes : List ℕ → ℕ → List Node
-nodes ws n = view ws (min n (length ws / stride))
+nodes ws n = view ws (min n (capacity (length ws)))
 
 abbrev pub nodeAt : List Node → ℕ → Node
 nodeAt ns p = getD ns p (node 0 unknown)

@@ -12,14 +12,10 @@ ghost use Rattle.line_text.specs.Line.{nodes, nodeAt, nidAt, nodeText, r
 pub fn nid_at(list: &[u64], lines: usize, place: NodeRef) -> Nid
     ensures { λ r. ⌜ r .0 ≡ nidAt (nodes (now (list .entry)) lines) (place .0) ⌝ }
 {
-    let p = place.0;
-    if lines <= p {
+    if lines <= place.0 {
         return Nid(0);
     }
-    if list.len() / btor2_list::STRIDE <= p {
-        return Nid(0);
-    }
-    Nid(list[p * btor2_list::STRIDE] / btor2_list::NID_UNIT)
+    btor2_list::nid_at(list, place)
 }
 
 // A record of the list.
@@ -74,7 +70,7 @@ pub fn put_run<'a>(
 ) -> usize
     ensures { λ r. ⌜ Put (now (out .entry)) at (runText (now (host .entry)) (now (ours .entry)) (nodes (now (list .entry)) lines) from count) (now (out .exit)) r ⌝ }
 {
-    let held = list.len() / btor2_list::STRIDE;
+    let held = btor2_list::capacity(list.len());
     let mut p = at;
     let mut place = from;
     let mut left = count;

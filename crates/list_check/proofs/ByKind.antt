@@ -63,9 +63,9 @@ module _ (host ours : ℕ) (out : ℕ → Bool) (l : Line) where
   unfolding opOf opUnformed
   a-not e = rw e (own (sortNumbered (l .sort)) _ _ (λ s. or-false _))
 
-  pub a-state : l .kind ≡ 19 → (mark : ℕ) → l .imm ≡ mark → opUnformed host ours out (opOf l) ≡ (noSort || (nameOutside host ours (l .name) || (B.not (eqb mark 0) && out (l .op1 .0))))
+  pub a-state : l .kind ≡ 19 → opUnformed host ours out (opOf l) ≡ (noSort || (nameOutside host ours (l .name) || (B.not (eqb (l .imm) 0) && out (l .op1 .0))))
   unfolding opOf opUnformed
-  a-state e mark is = rw (e, ← is) (own (sortNumbered (l .sort)) _ _ (λ s. either s (eqb (l .imm) 0)))
+  a-state e = rw e (own (sortNumbered (l .sort)) _ _ (λ s. either s (eqb (l .imm) 0)))
 
   pub a-next : l .kind ≡ 20 → opUnformed host ours out (opOf l) ≡ (noSort || any out (l .op1 .0 ∷ l .op2 .0 ∷ []))
   unfolding opOf opUnformed

@@ -1,17 +1,18 @@
 -- Refusal 11 over the lines of the words is that of each record with the lookups from its place. Assumes nothing.
-use Prim.Native.Nat.{ℕ, _*_, _/_, _≤_, _<_}
+use Prim.Native.Nat.{ℕ, _≤_, _<_}
 use mathlib.Core.Path.{_≡_, refl, sym, _∙_, ap, fun-ext}
-use mathlib.Core.Bool.{Bool, true, false, _||_, true≢false}
+use mathlib.Core.Bool.{Bool, false}
 use mathlib.Core.Bool as B
 use mathlib.Core.List.{List}
 use native.Mathlib.Omega.{arith}
 use borrow.Author.Tests.{lt-ltb, le-ltb, ltb-false}
 use lib.ListN.{length, length-map, List·getD-map}
+use Rattle.bitvec.proofs.Truth.{neither}
 use Rattle.bitvec.proofs.Base.{by-le}
 use Rattle.btor2.specs.declared.MaybeSort.{MaybeSort}
 use Rattle.btor2.specs.declared.MaybeSort.the-variants.{Sort, NoSort}
 use Rattle.btor2.specs.Op.{Op, unknown, carried}
-use Rattle.btor2_list.specs.Record.{stride, lineAt}
+use Rattle.btor2_list.specs.Record.{recordAt, capacity}
 use Rattle.btor2_list.specs.Node.{Node, node, opOf}
 use Rattle.btor2_list.specs.View.{view}
 use Rattle.btor2_list.specs.Look.{seenAs}
@@ -23,7 +24,7 @@ use Rattle.list_check.proofs.Some.{some-same, some-none}
 
 -- what the record at place p says
 abbrev pub said : List ℕ → ℕ → Op ℕ
-said ws p = opOf (lineAt ws (p * stride))
+said ws p = opOf (recordAt ws p)
 
 -- the test of the record at place p
 abbrev pub recordUnformed : ℕ → ℕ → List ℕ → ℕ → Bool
@@ -35,21 +36,17 @@ op-at ws n p h = List·getD-map (λ (x : Node). x .op) (view ws n) p (node 0 unk
 pub ops-length : (ws : List ℕ) (n : ℕ) → length (ops (view ws n)) ≡ n
 ops-length ws n = length-map (view ws n) (λ (x : Node). x .op) ∙ view-length ws n
 
-pub neither : (a b : Bool) → (a || b) ≡ false → (a ≡ false) × (b ≡ false)
-neither true b e = absurd (true≢false e)
-neither false b e = (refl, e)
-
 pub seen-value : (nid : ℕ) (m : MaybeSort) → noValue (seenAs nid m) ≡ B.not (hasValue m)
 seen-value nid (Sort s) = refl
 seen-value nid NoSort = refl
 
-module _ (ws : List ℕ) (n : ℕ) (room : n ≤ length ws / stride) where
+module _ (ws : List ℕ) (n : ℕ) (room : n ≤ capacity (length ws)) where
   -- the lookup from line p is the test of the definition
   pub looked : (p : ℕ) → p < n → (q : ℕ) → B.not (earlierValue (ops (view ws n)) p q) ≡ noValueAt ws p q
   looked p h q =
       by-le p q
       (λ l. rw (le-ltb q p l))
-      (λ l. let there : q < length ws / stride = omega arith in rw (lt-ltb q p l, lt-ltb _ _ there, op-at ws n q (omega arith)) (sym (seen-value (lineAt ws (q * stride) .nid .0) (carried (said ws q)))))
+      (λ l. let there : q < capacity (length ws) = omega arith in rw (lt-ltb q p l, lt-ltb _ _ there, op-at ws n q (omega arith)) (sym (seen-value (recordAt ws q .nid .0) (carried (said ws q)))))
 
   pub by-records : (host ours : ℕ) → unformed host ours (ops (view ws n)) ≡ some n (recordUnformed host ours ws)
   unfolding unformed
@@ -60,11 +57,11 @@ module _ (ws : List ℕ) (n : ℕ) (room : n ≤ length ws / stride) where
 
 -- where the check finds nothing, the words hold the lines, and each line passes its tests
 pub when-formed : (ws : List ℕ) (n host ours : ℕ) → unformedWords ws n host ours ≡ false
-    → (n ≤ length ws / stride) × ((p : ℕ) → p < n → lineUnformed host ours (ops (view ws n)) p ≡ false)
+    → (n ≤ capacity (length ws)) × ((p : ℕ) → p < n → lineUnformed host ours (ops (view ws n)) p ≡ false)
 unfolding unformed
 when-formed ws n host ours e =
     let both = neither (pastWords ws n) (unformed host ours (ops (view ws n))) e in
-    (ltb-false (length ws / stride) n (both .0), λ p h. some-none (length (ops (view ws n))) (lineUnformed host ours (ops (view ws n))) (both .1) p (rw (ops-length ws n) h))
+    (ltb-false (capacity (length ws)) n (both .0), λ p h. some-none (length (ops (view ws n))) (lineUnformed host ours (ops (view ws n))) (both .1) p (rw (ops-length ws n) h))
 
 -- and what a line that passes has
 pub formed-line : (host ours : ℕ) (out : ℕ → Bool) (o : Op ℕ) → opUnformed host ours out o ≡ false

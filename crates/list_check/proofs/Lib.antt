@@ -1,5 +1,4 @@
 pub mod Some
-pub mod Found
 pub mod Formed
 pub mod Scan
 pub mod ByKind

@@ -8,6 +8,7 @@ use native.Mathlib.Nat.{eq-or-lt-of-le}
 use native.Mathlib.Omega.{arith}
 use lib.Dec.{eqb}
 use borrow.Author.Tests.{eq-eqb, ne-eqb}
+use Rattle.bitvec.proofs.Truth.{neither}
 use Rattle.btor2.specs.declared.NodeType.{NodeType}
 use Rattle.btor2.specs.declared.NodeType.the-variants.{Bit, Word, Memory}
 use Rattle.btor2.specs.declared.MaybeSort.the-variants.{Sort}
@@ -19,7 +20,6 @@ use Rattle.btor2_list.specs.Record.{hasName}
 use Rattle.btor2_list.specs.Node.{opOf}
 use Rattle.list_check.specs.Lines.{any}
 use Rattle.list_check.specs.Formed.{opUnformed}
-use Rattle.list_check.proofs.Formed.{neither}
 
 -- ---- the number of a sort
 

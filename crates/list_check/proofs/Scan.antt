@@ -1,5 +1,5 @@
 -- Of the lines of a known kind and sort, the kind tells which carry a value. Assumes nothing.
-use Prim.Native.Nat.{ℕ, _+_, _*_, _/_, _≤_, _<_}
+use Prim.Native.Nat.{ℕ, _+_, _≤_, _<_}
 use mathlib.Core.Path.{_≡_, refl, sym, _∙_, ap, fun-ext}
 use mathlib.Core.Bool.{Bool, true, false, cond, _||_}
 use mathlib.Core.Bool as B
@@ -10,6 +10,7 @@ use native.Mathlib.Omega.{arith}
 use lib.Dec.{eqb}
 use lib.ListN.{length}
 use borrow.Author.Tests.{lt-ltb, le-ltb, le-leb, lt-leb, ne-eqb}
+use Rattle.bitvec.proofs.Truth.{neither}
 use Rattle.bitvec.proofs.Base.{by-le}
 use Rattle.btor2.specs.declared.NodeType.{NodeType}
 use Rattle.btor2.specs.declared.MaybeSort.{MaybeSort}
@@ -17,7 +18,7 @@ use Rattle.btor2.specs.declared.MaybeSort.the-variants.{Sort, NoSort}
 use Rattle.btor2.specs.Sort.{sortNumbered}
 use Rattle.btor2.specs.Op.{Op, next, carried}
 use Rattle.btor2_list.specs.declared.Line.{Line}
-use Rattle.btor2_list.specs.Record.{stride, lineAt}
+use Rattle.btor2_list.specs.Record.{recordAt, capacity}
 use Rattle.btor2_list.specs.Node.{withSort, opOf}
 use Rattle.list_check.specs.declared.Checked.the-variants.{Unformed}
 use Rattle.list_check.specs.Formed.{isUnknown, hasValue, opUnformed, unformedWords}
@@ -25,7 +26,7 @@ use Rattle.list_check.specs.Lines.{some, pastWords}
 use Rattle.list_check.specs.Operand.{noValueAt}
 use Rattle.list_check.specs.Scan.{outBefore, scanUnformed, nameLength, scanLine, checkedLine}
 use Rattle.list_check.proofs.Some.{some-none}
-use Rattle.list_check.proofs.Formed.{said, recordUnformed, neither, seen-value, by-records, formed-line}
+use Rattle.list_check.proofs.Formed.{said, recordUnformed, seen-value, by-records, formed-line}
 
 -- it carries a value unless it is unknown
 abbrev Valued : Op ℕ → Type 0
@@ -87,18 +88,18 @@ module _ (l : Line) where
 
 -- the words hold line i, and each line before it has a known kind and sort
 pub record Reached (ws : List ℕ) (i : ℕ) : Type 0 where
-  pub held : i < length ws / stride
+  pub held : i < capacity (length ws)
   pub known : (q : ℕ) → q < i → isUnknown (said ws q) ≡ false
 
 -- where a scan has reached a line, its test of an operand is the lookup's
 short : (ws : List ℕ) (i : ℕ) → Reached ws i → (q : ℕ) → outBefore ws i q ≡ noValueAt ws i q
-unfolding lineAt
+unfolding recordAt
 short ws i r q =
     by-le i q
     (λ h. rw (le-ltb q i h, le-leb i q h))
     (λ h.
-    let there : q < length ws / stride = omega (arith, r .held) in
-    let l = lineAt ws (q * stride) in
+    let there : q < capacity (length ws) = omega (arith, r .held) in
+    let l = recordAt ws q in
     rw (lt-ltb q i h, lt-leb i q h, lt-ltb _ _ there) (sym (seen-value (l .nid .0) (carried (opOf l)) ∙ by-kind l (r .known q h))))
 
 -- and its test of the line is the record's
@@ -109,21 +110,21 @@ pub scanned : (ws : List ℕ) (i host ours : ℕ) → Reached ws i → scanUnfor
 scanned ws i host ours r = rw (lt-ltb _ _ (r .held)) (recorded ws i host ours r)
 
 -- a scan that has found the lines before a line well formed has reached it
-pub reached : (ws : List ℕ) (i host ours : ℕ) → i < length ws / stride → some i (recordUnformed host ours ws) ≡ false → Reached ws i
+pub reached : (ws : List ℕ) (i host ours : ℕ) → i < capacity (length ws) → some i (recordUnformed host ours ws) ≡ false → Reached ws i
 reached ws i host ours h none =
     record { held = h; known = λ q l. formed-line host ours (noValueAt ws q) (said ws q) (some-none i (recordUnformed host ours ws) none q l) .0 }
 
 -- so that it finds 11 of the lines up to that line
 pub checked : (ws : List ℕ) (i host ours : ℕ) → unformedWords ws i host ours ≡ false → scanLine ws i host ours ≡ checkedLine ws i host ours
 unfolding some
-checked ws i host ours none = ap (λ (t : Bool). cond t Unformed (nameLength (lineAt ws (i * stride)))) (by-le (length ws / stride) i past-the-words within)
+checked ws i host ours none = ap (λ (t : Bool). cond t Unformed (nameLength (recordAt ws i))) (by-le (capacity (length ws)) i past-the-words within)
   where
-    past-the-words : length ws / stride ≤ i → scanUnformed ws i host ours ≡ unformedWords ws (i + 1) host ours
-    past-the-words h = let over : length ws / stride < i + 1 = omega arith in rw (le-ltb _ _ h, lt-ltb _ _ over)
+    past-the-words : capacity (length ws) ≤ i → scanUnformed ws i host ours ≡ unformedWords ws (i + 1) host ours
+    past-the-words h = let over : capacity (length ws) < i + 1 = omega arith in rw (le-ltb _ _ h, lt-ltb _ _ over)
 
-    within : i < length ws / stride → scanUnformed ws i host ours ≡ unformedWords ws (i + 1) host ours
+    within : i < capacity (length ws) → scanUnformed ws i host ours ≡ unformedWords ws (i + 1) host ours
     within h =
-        let room : i + 1 ≤ length ws / stride = omega arith in
+        let room : i + 1 ≤ capacity (length ws) = omega arith in
         let before : some i (recordUnformed host ours ws) ≡ false = sym (by-records ws i (omega arith) host ours) ∙ neither (pastWords ws i) _ none .1 in
         let one : some (i + 1) (recordUnformed host ours ws) ≡ recordUnformed host ours ws i = rw (add-one, before) in
         scanned ws i host ours (reached ws i host ours h before) ∙ rw (le-ltb _ _ room) (sym (by-records ws (i + 1) room host ours ∙ one))

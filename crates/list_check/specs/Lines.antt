@@ -1,11 +1,11 @@
 -- The lines of a list, and tests over them.
-use Prim.Native.Nat.{ℕ, zero, suc, _/_}
+use Prim.Native.Nat.{ℕ, zero, suc}
 use mathlib.Core.Bool.{Bool, false, _||_}
 use mathlib.Core.List.{List, [], _∷_, map}
 use lib.Dec.{ltb}
 use lib.ListN.{length, getD}
 use Rattle.btor2.specs.Op.{Op, unknown}
-use Rattle.btor2_list.specs.Record.{stride}
+use Rattle.btor2_list.specs.Record.{capacity}
 use Rattle.btor2_list.specs.Node.{Node}
 
 -- what the lines say, without their identifiers
@@ -27,4 +27,4 @@ any test (x ∷ xs) = test x || any test xs
 
 -- the words do not hold n lines
 abbrev pub pastWords : List ℕ → ℕ → Bool
-pastWords ws n = ltb (length ws / stride) n
+pastWords ws n = ltb (capacity (length ws)) n

@@ -1,5 +1,5 @@
 -- What the listing's laws rest on of the lowering: what one call leaves, and what an instruction needs. Assumes nothing.
-use Prim.Native.Nat.{ℕ, _+_, _*_, _/_, _≤_, _<_}
+use Prim.Native.Nat.{ℕ, _+_, _*_, _≤_, _<_}
 use mathlib.Core.Path.{_≡_, refl, sym, ap, subst, _∙_}
 use mathlib.Core.Bool.{Bool, true, false, cond, _&&_, _||_}
 use mathlib.Core.List.{List, [], _∷_, _++_}
@@ -7,22 +7,24 @@ use native.Mathlib.Omega.{arith}
 use borrow.Author.Tests.{eqb-true, eqb-false, lt-ltb, le-ltb, le-leb}
 use lib.Dec.{T, eqb, ltb, leb}
 use lib.ListN.{length}
-use Rattle.bitvec.proofs.Below.{allBelow}
+use Rattle.bitvec.proofs.Truth.{is-true}
 use Rattle.btor2.specs.declared.Name.{Name}
 use Rattle.btor2.specs.declared.NodeRef.{NodeRef}
 use Rattle.btor2.specs.Op.{Op, const, read, write, bin, uext, ite, eq, and, or, not, state, stateInit, next, input, bad, unknown}
-use Rattle.btor2_list.specs.Record.{stride}
+use Rattle.btor2_list.specs.Record.{capacity}
 use Rattle.btor2_list.specs.Node.{noName}
 use Rattle.btor2_list.specs.View.{view}
 use Rattle.builder.specs.declared.Tally.{Tally}
-use Rattle.instruction_class.specs.declared.Class.{Class}
-use Rattle.instruction_class.specs.declared.Class.the-variants.{Plain, Access, Addition, Branch, Jump, Indirect, Call}
-use Rattle.instruction_class.specs.Class.{class, plainCount, countOf, hasBad, hasDispatch}
+use Rattle.riscv.specs.declared.Zeros.{Zeros}
+use Rattle.riscv.specs.Zeros.{zerosOf}
+use Rattle.riscv.specs.declared.Class.{Class}
+use Rattle.riscv.specs.declared.Class.the-variants.{Plain, Access, Addi, Branch, Jal, Jalr, Ecall}
+use Rattle.riscv.specs.Class.{class, plainCount, countOf, hasBad, hasDispatch}
 use Rattle.edges.specs.Edges.{edgeCount}
 use Rattle.models.specs.Places.{Operands, Flows}
 use Rattle.riscv.specs.declared.Instruction.{Instruction}
 use Rattle.riscv.specs.Kind.{Kind, kindAt}
-use Rattle.riscv.proofs.EachKind.{by-kind, eight, of-eight}
+use Rattle.riscv.proofs.EachKind.{zeros, everyCase, by-case}
 use Rattle.text.specs.BadName.{badName}
 use Rattle.text.proofs.Laws.{bad-name-length}
 use Rattle.lowering_refusals.specs.declared.Counts.{Counts}
@@ -31,7 +33,7 @@ use Rattle.lowering_refusals.specs.declared.State.{State}
 use Rattle.lowering_refusals.specs.Refusal.{needsOf, needs, roomOut, refusalOf}
 use Rattle.btor2_list.specs.Limits.{mostLines}
 use Rattle.btor2_name.specs.NameBytes.{ourArea}
-use Rattle.lowering_lines.specs.Lines.{nameFor, programFrom}
+use Rattle.lowering_lines.specs.Lines.{nameFor, programWith}
 use Rattle.lowering.specs.Lowering.{Lent, Answer, programOf, countsAfter, settled, roomIn, refused, loweringGiven, lowering}
 use Rattle.program.specs.Lines.{linesOf, placeAfter}
 use Rattle.lowering_laws.specs.Lines.{numbered}
@@ -49,19 +51,19 @@ pub record Small (n : Room) : Type 0 where
   pub dispatches : n .dispatches ≤ mostDispatches
 
 small-of : (c : Class) (n : ℕ) (z d s : Bool) (pc : ℕ)
-    → Small (record { lines = countOf c n z d s; names = cond (hasBad c s) (length (badName pc)) 0; edges = edgeCount c; dispatches = cond (hasDispatch c s) 1 0; bads = cond (hasBad c s) 1 0 })
+    → Small (record { lines = countOf c n (zeros z d s); names = cond (hasBad c (zeros z d s)) (length (badName pc)) 0; edges = edgeCount c; dispatches = cond (hasDispatch c (zeros z d s)) 1 0; bads = cond (hasBad c (zeros z d s)) 1 0 })
 small-of Plain n z d s pc = record { badLines = omega arith; nameBytes = omega arith; edges = omega arith; dispatches = omega arith }
 small-of Access n z d s pc = record { badLines = omega arith; nameBytes = omega arith; edges = omega arith; dispatches = omega arith }
-small-of Addition n z d s pc = record { badLines = omega arith; nameBytes = omega arith; edges = omega arith; dispatches = omega arith }
+small-of Addi n z d s pc = record { badLines = omega arith; nameBytes = omega arith; edges = omega arith; dispatches = omega arith }
 small-of Branch n z d s pc = record { badLines = omega arith; nameBytes = omega arith; edges = omega arith; dispatches = omega arith }
-small-of Jump n z d s pc = record { badLines = omega arith; nameBytes = omega arith; edges = omega arith; dispatches = omega arith }
-small-of Indirect n z d true pc = record { badLines = omega arith; nameBytes = omega (arith, bad-name-length pc); edges = omega arith; dispatches = omega arith }
-small-of Indirect n z d false pc = record { badLines = omega arith; nameBytes = omega arith; edges = omega arith; dispatches = omega arith }
-small-of Call n z d s pc = record { badLines = omega arith; nameBytes = omega arith; edges = omega arith; dispatches = omega arith }
+small-of Jal n z d s pc = record { badLines = omega arith; nameBytes = omega arith; edges = omega arith; dispatches = omega arith }
+small-of Jalr n z d true pc = record { badLines = omega arith; nameBytes = omega (arith, bad-name-length pc); edges = omega arith; dispatches = omega arith }
+small-of Jalr n z d false pc = record { badLines = omega arith; nameBytes = omega arith; edges = omega arith; dispatches = omega arith }
+small-of Ecall n z d s pc = record { badLines = omega arith; nameBytes = omega arith; edges = omega arith; dispatches = omega arith }
 
 pub small : (i : Instruction) (pc : ℕ) → Small (needs i pc)
 unfolding needsOf
-small i pc = let k = kindAt (i .kind) in small-of (class k) (plainCount k) (eqb (i .imm) 0) (eqb (i .rd) 0) (eqb (i .rs1) 0) pc
+small i pc = let k = kindAt (i .kind) in let z = zerosOf i in small-of (class k) (plainCount k) (z .imm) (z .rd) (z .rs1) pc
 
 pub lines-needed : (i : Instruction) (pc : ℕ) → needs i pc .lines ≡ growth i
 unfolding needsOf
@@ -108,35 +110,31 @@ abbrev pub oneRowEach : {A : Type 0} → List (Op A) → Bool
 oneRowEach [] = true
 oneRowEach (o ∷ os) = oneRow o && oneRowEach os
 
-is-true : (b : Bool) → T b → b ≡ true
-is-true true h = refl
-is-true false h = absurd h
-
 module _ {A : Type 0} (place : ℕ → A) (e : Operands A) (f : Flows A) (r m : A) (imm : ℕ) (name : Name) (short : leb (name .len) longestName ≡ true) where
-  rows : Kind → Bool → Bool → Bool → Bool
-  rows k z d s = oneRowEach (reading place e f r m imm name k z d s .lines)
+  rows : Kind → Zeros → Bool
+  rows k z = oneRowEach (reading place e f r m imm name k z .lines)
 
-  all-rows : T (allBelow 50 (λ (n : ℕ). eight (rows (kindAt n))))
+  all-rows : T (everyCase rows)
   unfolding rows reading
   all-rows = rw short tt
 
-  row-each : (k : Kind) (z d s : Bool) → oneRowEach (reading place e f r m imm name k z d s .lines) ≡ true
+  row-each : (k : Kind) (z : Zeros) → oneRowEach (reading place e f r m imm name k z .lines) ≡ true
   unfolding rows
-  row-each k z d s = is-true _ (of-eight (rows k) (by-kind (λ k. eight (rows k)) all-rows k) z d s)
+  row-each k z = is-true _ (by-case rows all-rows k z)
 
-name-short : (c : Class) (s : Bool) (names pc : ℕ) → leb (nameFor c s names pc .len) longestName ≡ true
-name-short c s names pc = go (hasBad c s)
+name-short : (c : Class) (z : Zeros) (names pc : ℕ) → leb (nameFor c z names pc .len) longestName ≡ true
+name-short c z names pc = go (hasBad c z)
   where
     go : (b : Bool) → leb ((cond b (record { area = ourArea; at = names; len = length (badName pc) }) noName) .len) longestName ≡ true
     go true = le-leb (length (badName pc)) longestName (bad-name-length pc)
     go false = refl
 
 rows-of : (st : State) (i : Instruction) (pc : ℕ) (flag : NodeRef) (place : ℕ → ℕ) → oneRowEach (linesOf place 0 (programOf st i pc flag)) ≡ true
-unfolding programOf programFrom
+unfolding programOf programWith
 rows-of st i pc flag place =
     let k = kindAt (i .kind) in
-    sym (ap (λ r. oneRowEach (r .lines)) (reads place _ _ _ _ _ _ k _ _ _))
-    ∙ row-each place _ _ _ _ _ _ (name-short (class k) (eqb (i .rs1) 0) (st .counts .names) pc) k _ _ _
+    sym (ap (λ r. oneRowEach (r .lines)) (reads place _ _ _ _ _ _ k _))
+    ∙ row-each place _ _ _ _ _ _ (name-short (class k) (zerosOf i) (st .counts .names) pc) k _
 
 -- ---- one call
 
@@ -145,7 +143,7 @@ pub record Grown (l : Lent) (st : State) (i : Instruction) (pc : ℕ) (a : Answe
   pub refusal : a .lowered .refusal ≡ 0
   pub lines : a .lowered .state .tally .lines ≡ st .tally .lines + needs i pc .lines
   pub most : needs i pc .lines ≤ 35
-  pub held : st .tally .lines + needs i pc .lines ≤ length (l .list) / stride
+  pub held : st .tally .lines + needs i pc .lines ≤ capacity (length (l .list))
   pub counts : a .lowered .state .counts ≡ countsAfter (st .counts) (needs i pc)
   pub list : length (a .lent .list) ≡ length (l .list)
   pub names : length (a .lent .names) ≡ length (l .names)

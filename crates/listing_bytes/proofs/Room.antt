@@ -7,11 +7,11 @@ use borrow.Author.Tests.{lt-ltb, le-ltb}
 use lib.Dec.{ltb}
 use lib.ListN.{length, replicate, drop, length-replicate, length-append, length-drop}
 use Rattle.bitvec.proofs.Base.{by-le}
-use Rattle.btor2_list.specs.Record.{stride}
+use Rattle.btor2_list.specs.Record.{capacity, wordsFor}
 use Rattle.listing_line.specs.declared.Parsed.{Parsed}
 use Rattle.listing_line.specs.declared.Parsed.the-variants.{Instruction as Instr, Malformed}
 use Rattle.listing_line.specs.Line.{parseLine}
-use Rattle.listing_start.specs.Start.{startNames, concat, startName, namedStates, startOps, records, startWords, startIn, startState}
+use Rattle.listing_start.specs.Start.{startLines, startNames, concat, startName, namedStates, startOps, records, startWords, startIn, startState}
 use Rattle.riscv.specs.declared.Instruction.{Instruction}
 use Rattle.lowering_refusals.specs.declared.State.{State}
 use Rattle.lowering_refusals.specs.Refusal.{needs, roomOf, roomOut}
@@ -27,7 +27,7 @@ use Rattle.listing_bytes.proofs.Core.{small, no-line-free, all-free, On
 
 pub record Kept (l : Lent) (st : State) : Type 0 where
   -- what is lent keeps its lengths
-  pub list : length (l .list) ≡ listingLines * stride
+  pub list : length (l .list) ≡ wordsFor listingLines
   pub names : length (l .names) ≡ listingLines * longestName
   pub edges : length (l .edges) ≡ mostEdges * edgeStride
   pub dispatches : length (l .dispatches) ≡ mostDispatches * dispatchStride
@@ -39,13 +39,13 @@ pub record Kept (l : Lent) (st : State) : Type 0 where
 
 -- ---- the start
 
-whole : length startWords ≡ 156
+whole : length startWords ≡ wordsFor startLines
 unfolding startNames concat startName namedStates startOps records startWords
 whole = refl
 
-start-length : (ws : List ℕ) → 156 ≤ length ws → length (startIn ws) ≡ length ws
+start-length : (ws : List ℕ) → wordsFor startLines ≤ length ws → length (startIn ws) ≡ length ws
 unfolding startIn
-start-length ws h = rw (le-ltb (length ws) 156 h, length-append startWords (drop 156 ws), whole, length-drop 156 ws) (omega arith)
+start-length ws h = rw (le-ltb (capacity (length ws)) startLines (omega arith), length-append startWords (drop (wordsFor startLines) ws), whole, length-drop (wordsFor startLines) ws) (omega arith)
 
 pub zeros : (n : ℕ) → length (replicate {A = ℕ} n 0) ≡ n
 zeros n = length-replicate n 0
@@ -53,7 +53,7 @@ zeros n = length-replicate n 0
 pub start-kept : Kept startLent startState
 unfolding startLent startState
 start-kept = record {
-  list = let n = zeros (listingLines * stride) in start-length (replicate (listingLines * stride) 0) (omega (arith, n)) ∙ n;
+  list = let n = zeros (wordsFor listingLines) in start-length (replicate (wordsFor listingLines) 0) (omega (arith, n)) ∙ n;
   names = zeros (listingLines * longestName);
   edges = zeros (mostEdges * edgeStride);
   dispatches = zeros (mostDispatches * dispatchStride);

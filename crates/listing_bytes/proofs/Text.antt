@@ -12,7 +12,7 @@ use lib.Seq.{drop-at, take-append-seam}
 use Rattle.btor2.specs.declared.Name.{Name}
 use Rattle.btor2.specs.Sort.{sortNumber, width}
 use Rattle.btor2.specs.Op.{Bin, add, sub, mul, udiv, sdiv, urem, sll, srl, ult, Op, const, read, write, bin, uext, ite, eq, and, or, not, state, stateInit, next, input, bad, unknown, mapOp, binSort, identifiers}
-use Rattle.btor2_list.specs.Record.{stride}
+use Rattle.btor2_list.specs.Record.{capacity}
 use Rattle.btor2_list.specs.Node.{Node}
 use Rattle.btor2_list.specs.View.{view}
 use Rattle.btor2_list.proofs.View.{view-length}
@@ -165,7 +165,7 @@ module _ (l : Lent) (st : State) (i : Instruction) (pc : ℕ) (none : (st .count
   run-most {a} g =
       let ns = nodes (a .lent .list) (a .lowered .state .tally .lines) in
       let grown = a .lowered .state .tally .lines - st .tally .lines in
-      let all : min (a .lowered .state .tally .lines) (length (a .lent .list) / stride) ≡ a .lowered .state .tally .lines =
+      let all : min (a .lowered .state .tally .lines) (capacity (length (a .lent .list))) ≡ a .lowered .state .tally .lines =
       min-eq-left (rw (g .list, g .lines) (g .held)) in
       let own : drop (st .tally .lines) ns ≡ numbered (st .tally .nid) (g .ops) =
       ap (λ (n : ℕ). drop (st .tally .lines) (view (a .lent .list) n)) all ∙ ap (drop (st .tally .lines)) (g .nodes) ∙ drop-at (view (l .list) (st .tally .lines)) _ (st .tally .lines) (view-length (l .list) (st .tally .lines)) in

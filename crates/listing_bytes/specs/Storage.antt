@@ -2,7 +2,7 @@
 -- bads and names; edges and dispatches are emptied after each line."
 use Prim.Native.Nat.{ℕ, _*_}
 use lib.ListN.{replicate}
-use Rattle.btor2_list.specs.Record.{stride}
+use Rattle.btor2_list.specs.Record.{wordsFor}
 use Rattle.edges.specs.Edges.{edgeStride, dispatchStride}
 use Rattle.listing_start.specs.Start.{startIn}
 use Rattle.lowering.specs.Lowering.{Lent, lent}
@@ -24,7 +24,7 @@ mostDispatches = 1
 -- every line may be a bad one with the longest name
 unfoldable pub startLent : Lent
 startLent =
-    lent (startIn (replicate (listingLines * stride) 0)) (replicate (listingLines * longestName) 0) (replicate (mostEdges * edgeStride) 0)
+    lent (startIn (replicate (wordsFor listingLines) 0)) (replicate (listingLines * longestName) 0) (replicate (mostEdges * edgeStride) 0)
     (replicate (mostDispatches * dispatchStride) 0) (replicate listingLines 0)
 
 -- "over 256 bytes": of a line one byte more is kept, so that a longer one is seen to be longer

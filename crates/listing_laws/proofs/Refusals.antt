@@ -1,5 +1,5 @@
 -- In every state that the listing reaches, the counts, the roles and the flag are as a call asks. Assumes nothing.
-use Prim.Native.Nat.{ℕ, _+_, _*_, _/_, _≤_}
+use Prim.Native.Nat.{ℕ, _+_, _/_, _≤_}
 use mathlib.Core.Path.{_≡_, refl, sym, _∙_, ap}
 use mathlib.Core.Bool.{Bool, true, false, _&&_}
 use mathlib.Core.List.{List, [], _∷_}
@@ -9,13 +9,14 @@ use lib.Dec.{eqb}
 use lib.ListN.{length, getD, replicate, List·getD-append}
 use Rattle.btor2.specs.declared.NodeRef.{NodeRef}
 use Rattle.btor2.specs.Op.{unknown, carried}
-use Rattle.btor2_list.specs.Record.{stride}
+use Rattle.btor2_list.specs.Record.{wordsFor}
 use Rattle.btor2_list.specs.Node.{Node, node}
 use Rattle.btor2_list.specs.View.{view}
 use Rattle.btor2_list.specs.Look.{seen, lookAt}
 use Rattle.btor2_list.proofs.Seen.{look-line}
 use Rattle.btor2_list.proofs.View.{view-length}
-use Rattle.instruction_class.specs.Class.{needsFlag}
+use Rattle.riscv.specs.Zeros.{zerosOf}
+use Rattle.riscv.specs.Class.{needsFlag}
 use Rattle.listing_bytes.specs.Step.{emptied, parsedStep, step}
 use Rattle.listing_bytes.specs.Storage.{listingLines, startLent}
 use Rattle.listing_bytes.specs.Listing.{steps, reached}
@@ -34,7 +35,7 @@ use Rattle.lowering_laws.proofs.OneCall.{when-accepted, when-refused}
 use Rattle.riscv.specs.declared.Instruction.{Instruction}
 use Rattle.riscv.specs.Kind.{kindAt}
 use Rattle.roles_check.specs.RolesFit.{valueSort, rolesFit}
-use Rattle.roles_kept.proofs.Call.{refusal-is, roled-after, roles-keep}
+use Rattle.roles_kept.proofs.Call.{called, refusal-is, roled-after, roles-keep}
 use Rattle.listing_laws.specs.Refusals.{OwnNumberOrFull}
 use Rattle.listing_laws.proofs.Accepted.{lines-put, roles-put, given}
 
@@ -52,7 +53,7 @@ pub record Sound (l : Lent) (st : State) : Type 0 where
 nowhere : Node
 nowhere = node 0 unknown
 
-held : (l : Lent) (st : State) → Kept l st → st .tally .lines * stride ≤ length (l .list)
+held : (l : Lent) (st : State) → Kept l st → wordsFor (st .tally .lines) ≤ length (l .list)
 held l st k = omega (arith, k .list, k .lines)
 
 -- ---- the start
@@ -64,8 +65,8 @@ flag-line = refl
 start-sound : Sound startLent startState
 unfolding startLent startState
 start-sound =
-    let ws = replicate {A = ℕ} (listingLines * stride) 0 in
-    let room : startLines * stride ≤ length ws = omega (arith, zeros (listingLines * stride)) in
+    let ws = replicate {A = ℕ} (wordsFor listingLines) 0 in
+    let room : wordsFor startLines ≤ length ws = omega (arith, zeros (wordsFor listingLines)) in
     record {
       kept = start-kept;
       begun = omega arith;
@@ -88,7 +89,7 @@ module _ (l : Lent) (st : State) (s : Sound l st) (i : Instruction) (pc : ℕ) w
         kept = kept;
         begun = omega (arith, a .lines, s .begun);
         nids = omega (arith, a .lines, a .nids, s .nids);
-        size = roled-after l st i pc flag (s .size) e .size;
+        size = roled-after (called l st i pc flag) (record { size = s .size; passed = e }) .size;
         roles = roles-keep l st i pc flag (s .size) (a .refusal);
         bit =
             ap valueSort (look-line _ _ (held _ _ kept) (flag .0) nowhere (omega (arith, a .lines, s .begun)))
@@ -137,7 +138,7 @@ counts-in l st s =
 
 flag-in : (l : Lent) (st : State) → Sound l st → (i : Instruction) → flagOut (l .list) (st .tally .lines) i (flag .0) ≡ false
 unfolding flagOut
-flag-in l st s i = rw (s .bit) (and-false (needsFlag (kindAt (i .kind)) (eqb (i .rd) 0) (eqb (i .rs1) 0)))
+flag-in l st s i = rw (s .bit) (and-false (needsFlag (kindAt (i .kind)) (zerosOf i)))
 
 pub own-number-or-full : OwnNumberOrFull
 unfolding refusalGiven

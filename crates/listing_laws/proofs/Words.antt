@@ -1,5 +1,5 @@
 -- Words that begin alike hold the same lines: the view, and what the roles are. Assumes nothing.
-use Prim.Native.Nat.{ℕ, _+_, _*_, _≤_}
+use Prim.Native.Nat.{ℕ, _+_, _≤_}
 use mathlib.Core.Path.{_≡_, refl, sym, _∙_, ap, ap₂}
 use mathlib.Core.Bool.{Bool, _&&_}
 use mathlib.Core.List.{List, [], _∷_, _++_}
@@ -11,7 +11,7 @@ use Rattle.btor2.specs.declared.NodeRef.{NodeRef}
 use Rattle.btor2.specs.Sort.{sortNumber}
 use Rattle.btor2.specs.Op.{unknown}
 use Rattle.btor2_list.specs.declared.Looked.{Looked}
-use Rattle.btor2_list.specs.Record.{stride}
+use Rattle.btor2_list.specs.Record.{wordsFor}
 use Rattle.btor2_list.specs.Node.{Node, node}
 use Rattle.btor2_list.specs.View.{view}
 use Rattle.btor2_list.specs.Look.{seen, lookAt}
@@ -20,13 +20,13 @@ use Rattle.roles_check.specs.RolesFit.{valueSort, roleSort, rolesFit}
 use Rattle.demand.proofs.Views.{view-agree}
 
 module _ (front rest : List ℕ) where
-  pub view-front : (n : ℕ) → n * stride ≤ length front → view (front ++ rest) n ≡ view front n
+  pub view-front : (n : ℕ) → wordsFor n ≤ length front → view (front ++ rest) n ≡ view front n
   view-front n h = view-agree (front ++ rest) front n (λ j l. List·getD-append front rest 0 j (omega arith))
 
-  module _ (n : ℕ) (h : n * stride ≤ length front) where
+  module _ (n : ℕ) (h : wordsFor n ≤ length front) where
     look-front : (p : ℕ) → lookAt (front ++ rest) n p ≡ lookAt front n p
     look-front p =
-        let longer : n * stride ≤ length (front ++ rest) = rw (length-append front rest) (omega arith) in
+        let longer : wordsFor n ≤ length (front ++ rest) = rw (length-append front rest) (omega arith) in
         by-le n p
         (λ g. look-past (front ++ rest) n longer p g ∙ sym (look-past front n h p g))
         (λ g.

@@ -4,8 +4,10 @@ use Prim.Native.String.{String}
 use mathlib.Core.Path.{_≡_, refl}
 use mathlib.Core.List.{_++_}
 use lib.ListN.{replicate}
-use Rattle.listing_line.specs.Text.{bytes, all, split, onFirst, numberBelow, decimal, onward}
-use Rattle.listing_line.specs.Kinds.{kindNames, same, placeOf}
+use Rattle.listing_line.specs.Text.{all, split, onFirst, numberBelow, decimal, onward}
+use Rattle.riscv.specs.Kind.{Ecall, kindCount, kindNumber, kindNames}
+use Rattle.riscv.specs.Name.{bytes}
+use Rattle.listing_line.specs.Kinds.{same, placeOf}
 use Rattle.listing_line.specs.Line.{letters, negated, immediate, instruction, parseLine}
 use Rattle.listing_line.specs.declared.Parsed.{Parsed}
 use Rattle.listing_line.specs.declared.Parsed.the-variants.{Instruction, Malformed}
@@ -22,7 +24,7 @@ bltu : line "65540 Bltu 0 5 6 -4" ≡ Instruction 65540 45 0 5 6 (2 ^ 64 - 4)
 unfolding line
 bltu = refl
 
-largest : line "18446744073709551615 Ecall 255 255 255 2147483647" ≡ Instruction (2 ^ 64 - 1) 49 255 255 255 (2 ^ 31 - 1)
+largest : line "18446744073709551615 Ecall 255 255 255 2147483647" ≡ Instruction (2 ^ 64 - 1) (kindNumber Ecall) 255 255 255 (2 ^ 31 - 1)
 unfolding line
 largest = refl
 
@@ -30,7 +32,7 @@ least : line "0 Lui 0 0 0 -2147483648" ≡ Instruction 0 0 0 0 0 (2 ^ 64 - 2 ^ 3
 unfolding line
 least = refl
 
-unknown : line "0 lui 0 0 0 0" ≡ Instruction 0 50 0 0 0 0
+unknown : line "0 lui 0 0 0 0" ≡ Instruction 0 kindCount 0 0 0 0
 unfolding line
 unknown = refl
 
@@ -78,7 +80,7 @@ long : (ℕ → Parsed)
 unfolding line
 long n = parseLine (bytes "0 " ++ replicate n 81 ++ bytes " 0 0 0 0")
 
-whole : long 246 ≡ Instruction 0 50 0 0 0 0
+whole : long 246 ≡ Instruction 0 kindCount 0 0 0 0
 unfolding long
 whole = refl
 

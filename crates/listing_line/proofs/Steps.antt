@@ -13,7 +13,7 @@ use lib.Seq.{drop-cons, drop-drop, getD-drop, take-all}
 use borrow.Author.Tests.{eq-eqb, ne-eqb, eqb-true, eqb-false, lt-ltb, le-ltb, lt-leb, le-leb}
 use Rattle.listing_line.specs.Text.{all, onFirst, split, before, digit, decimal, onward, numberBelow}
 use Rattle.listing_line.specs.Line.{letter, letters, negated, immediate}
-use Rattle.listing_line.specs.Inside.{packed}
+use Rattle.riscv.specs.Name.{mostLetters, packed}
 use Rattle.listing_line.specs.declared.Number.the-variants.{Value, NotOne}
 
 and-true : (t : Bool) → (t && true) ≡ t
@@ -266,10 +266,10 @@ packed-lt (b ∷ bs) h = omega (arith, packed-lt bs (λ j. h (suc j)), h 0, pow-
     w : (n : ℕ) → 8 * suc n + 1 ≡ 8 + (8 * n + 1)
     w n = omega arith
 
--- the word of a name of at most five bytes has room for one more
-pub packed-room : (s : List ℕ) (i : ℕ) → length s ≤ 5 → ((j : ℕ) → getD s j 0 < 256) → packed (drop i s) < 2 ^ 41
-packed-room s i h bytes =
-    let short : 8 * length (drop i s) + 1 ≤ 41 = simp length-drop (omega arith) in
+-- the word of what stands after the first byte of a name has room for one byte more
+pub packed-room : (s : List ℕ) (i : ℕ) → 0 < i → length s ≤ mostLetters → ((j : ℕ) → getD s j 0 < 256) → packed (drop i s) < 2 ^ 49
+packed-room s i p h bytes =
+    let short : 8 * length (drop i s) + 1 ≤ 49 = simp length-drop (omega arith) in
     omega (arith, packed-lt (drop i s) (λ j. rw getD-drop (bytes (i + j))), pow-mono short)
 
 pub packed-back : (s : List ℕ) (i : ℕ) → 0 < i → i ≤ length s → packed (drop (i - 1) s) ≡ packed (drop i s) * 256 + getD s (i - 1) 0

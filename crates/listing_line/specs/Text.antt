@@ -1,17 +1,10 @@
 -- Bytes as text: parting them, and decimal numbers.
 use Prim.Native.Nat.{ℕ, suc, _+_, _-_, _*_}
-use Prim.Native.String.{String, [] as nothing, _∷_ as _▸_}
-use Prim.Native.Char.{code}
 use mathlib.Core.Bool.{Bool, true, false, cond, not, _&&_}
 use mathlib.Core.List.{List, [], _∷_}
 use lib.Dec.{ltb, leb, eqb}
 use Rattle.listing_line.specs.declared.Number.{Number}
 use Rattle.listing_line.specs.declared.Number.the-variants.{Value, NotOne}
-
--- the bytes of an ASCII text
-abbrev pub bytes : String → List ℕ
-bytes nothing = []
-bytes (c ▸ s) = code c ∷ bytes s
 
 -- every byte passes the test
 unfoldable pub all : (ℕ → Bool) → List ℕ → Bool

@@ -1,11 +1,14 @@
 // The listing program's input: a line is an address and an instruction, or malformed.
+use riscv::KINDS;
+use riscv::MOST_LETTERS;
 ghost use mathlib.Core.Path.{_≡_};
 ghost use mathlib.Core.List.{[]};
 ghost use Prim.Native.Nat.{_+_, _<_, _≤_};
 ghost use lib.ListN.{length, getD};
 ghost use Rattle.listing_line.specs.Text.{split, before, numberBelow};
 ghost use Rattle.listing_line.specs.Kinds.{kindCode};
-ghost use Rattle.listing_line.specs.Inside.{packed, packedNames, assembled};
+ghost use Rattle.listing_line.specs.Inside.{assembled};
+ghost use Rattle.riscv.specs.Name.{mostLetters, packed};
 ghost use Rattle.listing_line.specs.Line.{parseLine};
 ghost use Rattle.listing_line.specs.Line.{letter as Line·letter};
 ghost use Rattle.listing_line.specs.Line.{letters as Line·letters};
@@ -17,7 +20,7 @@ pub enum Number {
     NotOne,
 }
 
-// What a line is. A kind that is none of the 50 has the number 50, and imm is the pattern of 64 bits.
+// What a line is. A kind that there is none of has the number of kinds, and imm is the pattern of 64 bits.
 pub enum Parsed {
     Instruction {
         address: u64,
@@ -232,70 +235,9 @@ fn wide(b: u8) -> u64
     b as u64
 }
 
-// The names of the kinds, each in one word: its bytes, the first lowest, and a 1 above them.
-const KINDS: [u64; 50] = [
-    0x169754c, // Lui
-    0x16370697541, // Auipc
-    0x1624c, // Lb
-    0x1684c, // Lh
-    0x1774c, // Lw
-    0x1644c, // Ld
-    0x175624c, // Lbu
-    0x175684c, // Lhu
-    0x16253, // Sb
-    0x16853, // Sh
-    0x17753, // Sw
-    0x16453, // Sd
-    0x169646441, // Addi
-    0x17569746c53, // Sltiu
-    0x169726f58, // Xori
-    0x169724f, // Ori
-    0x169646e41, // Andi
-    0x1696c6c53, // Slli
-    0x1696c7253, // Srli
-    0x169617253, // Srai
-    0x17769646441, // Addiw
-    0x177696c6c53, // Slliw
-    0x177696c7253, // Srliw
-    0x17769617253, // Sraiw
-    0x1646441, // Add
-    0x1627553, // Sub
-    0x16c6c53, // Sll
-    0x175746c53, // Sltu
-    0x16c7253, // Srl
-    0x1617253, // Sra
-    0x1724f, // Or
-    0x1646e41, // And
-    0x16c754d, // Mul
-    0x1766944, // Div
-    0x175766944, // Divu
-    0x1756d6552, // Remu
-    0x177646441, // Addw
-    0x177766944, // Divw
-    0x177627553, // Subw
-    0x1776c6c53, // Sllw
-    0x1776c754d, // Mulw
-    0x1716542, // Beq
-    0x1656e42, // Bne
-    0x1746c42, // Blt
-    0x1656742, // Bge
-    0x175746c42, // Bltu
-    0x175656742, // Bgeu
-    0x16c614a, // Jal
-    0x1726c614a, // Jalr
-    0x16c6c616345, // Ecall
-];
-
-fn kind_word(k: usize) -> u64
-    requires { ⌜ k < 50 ⌝ }
-    ensures { λ r. ⌜ r ≡ getD packedNames k 0 ⌝ }
-{
-    KINDS[k]
-}
-
 // The bytes of s in one word, as those of a kind.
 fn pack(s: &[u8]) -> u64
-    requires { ⌜ length (now s) ≤ 5 ⌝ }
+    requires { ⌜ length (now s) ≤ mostLetters ⌝ }
     ensures { λ r. ⌜ r ≡ packed (now (s .entry)) ⌝ }
 {
     let mut w: u64 = 1;
@@ -307,20 +249,20 @@ fn pack(s: &[u8]) -> u64
     w
 }
 
-// The kind's code, or 50 for none.
+// The kind's code, or how many kinds there are where it is none.
 fn kind_code(name: &[u8]) -> u64
     ensures { λ r. ⌜ r ≡ kindCode (now (name .entry)) ⌝ }
 {
-    if 5 < name.len() {
-        return 50;
+    if MOST_LETTERS < name.len() {
+        return KINDS;
     }
     let w = pack(name);
-    let mut k: usize = 0;
-    while k < 50 {
-        if kind_word(k) == w {
-            return k as u64;
+    let mut k: u64 = 0;
+    while k < KINDS {
+        if riscv::name_of(k) == w {
+            return k;
         }
         k += 1;
     }
-    50
+    KINDS
 }

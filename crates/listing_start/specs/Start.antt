@@ -1,5 +1,5 @@
 -- The listing program's own start (document 01, "The listing program has its own start").
-use Prim.Native.Nat.{ℕ, zero, suc, _+_, _-_, _*_}
+use Prim.Native.Nat.{ℕ, zero, suc, _+_, _-_}
 use mathlib.Core.Bool.{cond}
 use mathlib.Core.List.{List, [], _∷_, _++_, map}
 use lib.Dec.{ltb}
@@ -8,10 +8,11 @@ use Rattle.btor2.specs.declared.Name.{Name}
 use Rattle.btor2.specs.declared.NodeRef.{NodeRef}
 use Rattle.btor2.specs.declared.NodeType.{NodeType}
 use Rattle.btor2.specs.declared.NodeType.the-variants.{Bit, Word, Memory}
-use Rattle.btor2.specs.Op.{Op, const, state}
-use Rattle.btor2_list.specs.Record.{stride, words}
+use Rattle.btor2.specs.Op.{Op, const, state, unknown}
+use Rattle.btor2_list.specs.Record.{capacity, wordsFor, words}
+use Rattle.btor2_list.specs.declared.Line.{Line}
 use Rattle.btor2_list.specs.Node.{lineOf}
-use Rattle.listing_line.specs.Text.{bytes}
+use Rattle.riscv.specs.Name.{bytes}
 use Rattle.lowering_refusals.specs.declared.State.{State}
 
 -- ---- names
@@ -63,9 +64,13 @@ records nid (o ∷ os) = words (lineOf nid o) ++ records (nid + 1) os
 unfoldable pub startWords : List ℕ
 startWords = records firstNid startOps
 
+-- the record of line k
+abbrev pub startLine : ℕ → Line
+startLine k = lineOf (firstNid + k) (getD startOps k unknown)
+
 -- the lent words with the start in front, where they hold it
 unfoldable pub startIn : List ℕ → List ℕ
-startIn ws = cond (ltb (length ws) (startLines * stride)) ws (startWords ++ drop (startLines * stride) ws)
+startIn ws = cond (ltb (capacity (length ws)) startLines) ws (startWords ++ drop (wordsFor startLines) ws)
 
 -- ---- roles
 

@@ -1,197 +1,95 @@
 // The listing program's own start: its lines, and its state.
+use btor2::Name;
+use btor2::Nid;
 use btor2::NodeRef;
+use btor2_list::Line;
+use btor2_list::capacity;
+use btor2_list::put;
 use builder::Tally;
 use lowering_refusals::Counts;
 use lowering_refusals::State;
 ghost use mathlib.Core.Path.{_≡_};
 ghost use Prim.Native.Nat.{_<_};
 ghost use lib.ListN.{getD};
-ghost use Rattle.listing_start.specs.Start.{startWords, startIn, startState};
+ghost use Rattle.listing_start.specs.Start.{startLines, startLine, startIn, startState};
 
 // The place of the line `flag`, under which every instruction is lowered.
 pub const FLAG: usize = 38;
 
-// 39 records of four words.
-const WORDS: usize = 156;
+const LINES: usize = 39;
 
-// Of each record the first word, byte by byte (identifier, init's mark, name's area, sort, kind), then the value of a Const, and the place and
-// the length of a State's name.
-const START: [u64; 156] = [
-    0x14_00_00_01_01,
-    0,
-    0,
-    0,
-    0x15_00_00_01_01,
-    1,
-    0,
-    0,
-    0x16_00_00_02_01,
-    0,
-    0,
-    0,
-    0x17_00_00_02_01,
-    1,
-    0,
-    0,
-    0x18_00_01_02_13,
-    0,
-    0,
-    2,
-    0x19_00_01_02_13,
-    0,
-    2,
-    2,
-    0x1a_00_01_02_13,
-    0,
-    4,
-    2,
-    0x1b_00_01_02_13,
-    0,
-    6,
-    2,
-    0x1c_00_01_02_13,
-    0,
-    8,
-    2,
-    0x1d_00_01_02_13,
-    0,
-    10,
-    2,
-    0x1e_00_01_02_13,
-    0,
-    12,
-    2,
-    0x1f_00_01_02_13,
-    0,
-    14,
-    2,
-    0x20_00_01_02_13,
-    0,
-    16,
-    2,
-    0x21_00_01_02_13,
-    0,
-    18,
-    3,
-    0x22_00_01_02_13,
-    0,
-    21,
-    3,
-    0x23_00_01_02_13,
-    0,
-    24,
-    3,
-    0x24_00_01_02_13,
-    0,
-    27,
-    3,
-    0x25_00_01_02_13,
-    0,
-    30,
-    3,
-    0x26_00_01_02_13,
-    0,
-    33,
-    3,
-    0x27_00_01_02_13,
-    0,
-    36,
-    3,
-    0x28_00_01_02_13,
-    0,
-    39,
-    3,
-    0x29_00_01_02_13,
-    0,
-    42,
-    3,
-    0x2a_00_01_02_13,
-    0,
-    45,
-    3,
-    0x2b_00_01_02_13,
-    0,
-    48,
-    3,
-    0x2c_00_01_02_13,
-    0,
-    51,
-    3,
-    0x2d_00_01_02_13,
-    0,
-    54,
-    3,
-    0x2e_00_01_02_13,
-    0,
-    57,
-    3,
-    0x2f_00_01_02_13,
-    0,
-    60,
-    3,
-    0x30_00_01_02_13,
-    0,
-    63,
-    3,
-    0x31_00_01_02_13,
-    0,
-    66,
-    3,
-    0x32_00_01_02_13,
-    0,
-    69,
-    3,
-    0x33_00_01_02_13,
-    0,
-    72,
-    3,
-    0x34_00_01_02_13,
-    0,
-    75,
-    3,
-    0x35_00_01_02_13,
-    0,
-    78,
-    3,
-    0x36_00_01_02_13,
-    0,
-    81,
-    3,
-    0x37_00_01_03_13,
-    0,
-    84,
-    6,
-    0x38_00_01_03_13,
-    0,
-    90,
-    7,
-    0x39_00_01_02_13,
-    0,
-    97,
-    11,
-    0x3a_00_01_01_13,
-    0,
-    108,
-    4,
-];
+const FIRST_NID: u64 = 20;
 
-fn start_word(k: usize) -> u64
-    requires { ⌜ k < 156 ⌝ }
-    ensures { λ r. ⌜ r ≡ getD startWords k 0 ⌝ }
+const NEXT_NID: u64 = FIRST_NID + LINES as u64;
+
+// Line k of the start, by the columns of its lines: kind, sort, a constant's value, and the area, the place and the length of a state's name.
+fn start_line(k: usize) -> Line
+    requires { ⌜ k < startLines ⌝ }
+    ensures { λ r. ⌜ r ≡ startLine k ⌝ }
 {
-    START[k]
+    let kind = byte_at(
+        b"\x01\x01\x01\x01\x13\x13\x13\x13\x13\x13\x13\x13\x13\x13\x13\x13\x13\x13\x13\x13\x13\x13\x13\x13\x13\x13\x13\x13\x13\x13\x13\x13\x13\x13\x13\x13\x13\x13\x13",
+        k,
+    );
+    let sort = byte_at(
+        b"\x01\x01\x02\x02\x02\x02\x02\x02\x02\x02\x02\x02\x02\x02\x02\x02\x02\x02\x02\x02\x02\x02\x02\x02\x02\x02\x02\x02\x02\x02\x02\x02\x02\x02\x02\x03\x03\x02\x01",
+        k,
+    );
+    let imm = byte_at(
+        b"\x00\x01\x00\x01\x00\x00\x00\x00\x00\x00\x00\x00\x00\x00\x00\x00\x00\x00\x00\x00\x00\x00\x00\x00\x00\x00\x00\x00\x00\x00\x00\x00\x00\x00\x00\x00\x00\x00\x00",
+        k,
+    );
+    let area = byte_at(
+        b"\x00\x00\x00\x00\x01\x01\x01\x01\x01\x01\x01\x01\x01\x01\x01\x01\x01\x01\x01\x01\x01\x01\x01\x01\x01\x01\x01\x01\x01\x01\x01\x01\x01\x01\x01\x01\x01\x01\x01",
+        k,
+    );
+    let at = byte_at(
+        b"\x00\x00\x00\x00\x00\x02\x04\x06\x08\x0a\x0c\x0e\x10\x12\x15\x18\x1b\x1e\x21\x24\x27\x2a\x2d\x30\x33\x36\x39\x3c\x3f\x42\x45\x48\x4b\x4e\x51\x54\x5a\x61\x6c",
+        k,
+    );
+    let len = byte_at(
+        b"\x00\x00\x00\x00\x02\x02\x02\x02\x02\x02\x02\x02\x02\x03\x03\x03\x03\x03\x03\x03\x03\x03\x03\x03\x03\x03\x03\x03\x03\x03\x03\x03\x03\x03\x03\x06\x07\x0b\x04",
+        k,
+    );
+    let none = NodeRef(0);
+    Line {
+        nid: Nid(FIRST_NID + k as u64),
+        kind,
+        sort,
+        op1: none,
+        op2: none,
+        op3: none,
+        imm,
+        name: Name { area, at, len },
+    }
+}
+
+// A byte of a column, 0 past its end.
+fn byte_at(column: &[u8], k: usize) -> u64
+    ensures { λ r. ⌜ r ≡ getD (now (column .entry)) k 0 ⌝ }
+{
+    if column.len() <= k {
+        return 0;
+    }
+    widened(column[k])
+}
+
+fn widened(b: u8) -> u64
+    ensures { λ r. ⌜ r ≡ b ⌝ }
+{
+    b as u64
 }
 
 // The start's lines, where there is room for them all.
 pub fn put_start(list: &mut [u64])
     ensures { λ _. ⌜ now (list .exit) ≡ startIn (now (list .entry)) ⌝ }
 {
-    if list.len() < WORDS {
+    if capacity(list.len()) < LINES {
         return;
     }
     let mut k = 0;
-    while k < WORDS {
-        list[k] = start_word(k);
+    while k < LINES {
+        put(list, NodeRef(k), start_line(k));
         k += 1;
     }
 }
@@ -200,7 +98,10 @@ pub fn start_state() -> State
     ensures { λ r. ⌜ r ≡ startState ⌝ }
 {
     State {
-        tally: Tally { lines: 39, nid: 59 },
+        tally: Tally {
+            lines: LINES,
+            nid: NEXT_NID,
+        },
         counts: Counts {
             names: 0,
             edges: 0,

@@ -9,12 +9,14 @@ use lib.Seq.{sets}
 use Rattle.btor2.specs.declared.NodeRef.{NodeRef}
 use Rattle.program.specs.Prog.{Prog, Run, exec}
 use Rattle.builder.specs.Append.{Store, at, append}
-use Rattle.instruction_class.specs.declared.Class.{Class}
-use Rattle.instruction_class.specs.Class.{class, hasBad, hasDispatch}
+use Rattle.riscv.specs.declared.Class.{Class}
+use Rattle.riscv.specs.Class.{class, hasBad, hasDispatch}
 use Rattle.btor2_list.specs.Records.{putRecord}
 use Rattle.edges.specs.Edges.{dispatchStride, edgesAfter}
 use Rattle.models.specs.Places as P
 use Rattle.riscv.specs.declared.Instruction.{Instruction}
+use Rattle.riscv.specs.declared.Zeros.{Zeros}
+use Rattle.riscv.specs.Zeros.{zerosOf}
 use Rattle.riscv.specs.Kind.{kindAt}
 use Rattle.roles.specs.Roles.{readsIn, withFlows, withOutcome}
 use Rattle.roles_check.specs.RolesFit.{rolesFit}
@@ -50,41 +52,40 @@ unfoldable pub programOf : State → Instruction → ℕ → NodeRef → Prog �
 programOf st i pc flag = programFrom (readsIn (st .roles) flag i) (st .counts .names) i pc
 
 -- "Jalr: a dispatch under rs1 (with x0 a `bad` line instead)"; the bad line stands after the link's two lines, if any
-abbrev pub linkLines : Bool → ℕ
-linkLines d = cond d 0 2
+abbrev pub linkLines : Zeros → ℕ
+linkLines z = cond (z .rd) 0 2
 
-abbrev pub namesAfter : List ℕ → ℕ → Class → Bool → ℕ → List ℕ
-namesAfter names n c s pc = cond (hasBad c s) (sets names n (badName pc)) names
+abbrev pub namesAfter : List ℕ → ℕ → Class → Zeros → ℕ → List ℕ
+namesAfter names n c z address = cond (hasBad c z) (sets names n (badName address)) names
 
-abbrev pub dispatchesAfter : List ℕ → ℕ → Class → Bool → ℕ → ℕ → List ℕ
-dispatchesAfter dispatches n c s rs1 pc = cond (hasDispatch c s) (putRecord dispatchStride dispatches n (rs1 ∷ pc ∷ [])) dispatches
+abbrev pub dispatchesAfter : List ℕ → ℕ → Class → Zeros → ℕ → ℕ → List ℕ
+dispatchesAfter dispatches n c z rs1 address = cond (hasDispatch c z) (putRecord dispatchStride dispatches n (rs1 ∷ address ∷ [])) dispatches
 
-abbrev pub badsAfter : List ℕ → ℕ → Class → Bool → Bool → ℕ → List ℕ
-badsAfter bads n c s d lines = cond (hasBad c s) (putRecord 1 bads n ((lines + linkLines d) ∷ [])) bads
+abbrev pub badsAfter : List ℕ → ℕ → Class → Zeros → ℕ → List ℕ
+badsAfter bads n c z lines = cond (hasBad c z) (putRecord 1 bads n ((lines + linkLines z) ∷ [])) bads
 
 unfoldable pub countsAfter : Counts → Room → Counts
 countsAfter c n = record { names = c .names + n .names; edges = c .edges + n .edges; dispatches = c .dispatches + n .dispatches; bads = c .bads + n .bads }
 
 -- what an accepted call gives, from the run of its program
 unfoldable pub settled : Lent → State → Instruction → ℕ → Run Store (P.Modeled ℕ) → Answer
-settled l st i pc r =
+settled l st i address r =
     let c = class (kindAt (i .kind)) in
-    let d = eqb (i .rd) 0 in
-    let s = eqb (i .rs1) 0 in
+    let z = zerosOf i in
     record {
       lowered = record {
         refusal = 0;
         state = record {
           tally = r .state .tally;
-          counts = countsAfter (st .counts) (needs i pc);
+          counts = countsAfter (st .counts) (needs i address);
           roles = withOutcome (withFlows (st .roles) (r .value .flows)) (i .rd) (r .value .outcome);
         };
       };
       lent = lent (r .state .words)
-          (namesAfter (l .names) (st .counts .names) c s pc)
-          (edgesAfter (l .edges) (st .counts .edges) c pc (i .imm) (r .value .outcome))
-          (dispatchesAfter (l .dispatches) (st .counts .dispatches) c s (i .rs1) pc)
-          (badsAfter (l .bads) (st .counts .bads) c s d (st .tally .lines));
+          (namesAfter (l .names) (st .counts .names) c z address)
+          (edgesAfter (l .edges) (st .counts .edges) c address (i .imm) (r .value .outcome))
+          (dispatchesAfter (l .dispatches) (st .counts .dispatches) c z (i .rs1) address)
+          (badsAfter (l .bads) (st .counts .bads) c z (st .tally .lines));
     }
 
 abbrev pub roomIn : Lent → Room

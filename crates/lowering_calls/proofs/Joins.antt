@@ -22,12 +22,12 @@ use Rattle.lowering.specs.Words.{given, givenBy}
 use Rattle.lowering.proofs.Refused.{refused-kept}
 use Rattle.state_words.proofs.Words.{state-kept}
 use Rattle.state_words.specs.Words.{stateWords, rolesIn, stateOf, stateIn, withState, rolesHeld, stored}
-use Rattle.lowering_calls.specs.Apart.{GivenApart, acceptedApart, refusedApart, callApart, joined}
+use Rattle.lowering_calls.specs.Apart.{GivenApart, acceptedWith, acceptedApart, refusedApart, callApart, joined}
 use Rattle.lowering_calls.specs.Known.{knownWords}
 
 module _ (fits : Bool) (l : Lent) (roles : List NodeRef) (t : Tally) (c : Counts) (i : Instruction) (pc : ℕ) (flag : NodeRef) where
   pub joins : joined roles (i .rd) (callApart fits l t c (readsIn roles flag i) i pc flag) ≡ loweringGiven fits l (stateOf t c roles) i pc flag
-  unfolding callApart loweringGiven acceptedApart settled programOf
+  unfolding callApart loweringGiven acceptedWith settled programOf
   joins = go (eqb n 0) refl
     where
       n : ℕ

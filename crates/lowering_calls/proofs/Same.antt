@@ -18,7 +18,7 @@ use Rattle.lowering.specs.All.{LowerCall, callWords, callsIn, AnswerAll, answer
 use Rattle.state_words.proofs.Words.{size-in, state-kept, put-again, put-length}
 use Rattle.lowering.proofs.Words.{read-back}
 use Rattle.roles_kept.proofs.Passed.{roles-in}
-use Rattle.roles_kept.proofs.Call.{refusal-is, roled-after, roles-keep}
+use Rattle.roles_kept.proofs.Call.{called, refusal-is, roled-after, roles-keep}
 use Rattle.lowering_calls.specs.Known.{knownWords, wordsOn, wordsAll}
 
 sized : (ws : List ℕ) → length (stateIn ws .roles) ≡ roleCount
@@ -35,7 +35,7 @@ module _ (l : Lent) (st : State) (c : LowerCall) (size : length (st .roles) ≡ 
   none = sym (refusal-is l st (c .instruction) (c .address) (c .flag)) ∙ accepted
 
   pub size-on : length (lowering l st (c .instruction) (c .address) (c .flag) .lowered .state .roles) ≡ roleCount
-  size-on = roled-after l st (c .instruction) (c .address) (c .flag) size none .size
+  size-on = roled-after (called l st (c .instruction) (c .address) (c .flag)) (record { size = size; passed = none }) .size
 
   fits-on : Fits l st ≡ Fits (lowering l st (c .instruction) (c .address) (c .flag) .lent) (lowering l st (c .instruction) (c .address) (c .flag) .lowered .state)
   fits-on = roles-in (l .list) (roomIn l) st (c .instruction) (c .address) (c .flag .0) none ∙ sym (roles-keep l st (c .instruction) (c .address) (c .flag) size accepted)

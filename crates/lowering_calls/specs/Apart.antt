@@ -7,12 +7,15 @@ use Rattle.btor2.specs.declared.NodeRef.{NodeRef}
 use Rattle.builder.specs.declared.Tally.{Tally}
 use Rattle.builder.specs.Append.{Store, at, append}
 use Rattle.program.specs.Prog.{Run, exec}
-use Rattle.instruction_class.specs.Class.{class}
+use Rattle.riscv.specs.Class.{class}
 use Rattle.edges.specs.Edges.{edgesAfter}
 use Rattle.models.specs.Places as P
 use Rattle.models.specs.Code.{flowsOf, outcomeOf}
 use Rattle.riscv.specs.declared.Instruction.{Instruction}
+use Rattle.riscv.specs.declared.Class.{Class}
+use Rattle.riscv.specs.declared.Zeros.{Zeros}
 use Rattle.riscv.specs.Kind.{kindAt}
+use Rattle.riscv.specs.Zeros.{zerosOf}
 use Rattle.roles.specs.Roles.{withFlows, withOutcome}
 use Rattle.lowering_refusals.specs.declared.Counts.{Counts}
 use Rattle.lowering_refusals.specs.Refusal.{needs, refusalGiven}
@@ -41,23 +44,23 @@ givenApart p l = record {
   lent = l;
 }
 
-unfoldable pub acceptedApart : Lent → Tally → Counts → Instruction → ℕ → Run Store (P.Modeled ℕ) → GivenApart
-acceptedApart l t c i pc r =
-    let k = class (kindAt (i .kind)) in
-    let d = eqb (i .rd) 0 in
-    let s = eqb (i .rs1) 0 in
-    record {
-      refusal = 0;
-      tally = r .state .tally;
-      counts = countsAfter c (needs i pc);
-      flows = r .value .flows;
-      outcome = r .value .outcome;
-      lent = lent (r .state .words)
-          (namesAfter (l .names) (c .names) k s pc)
-          (edgesAfter (l .edges) (c .edges) k pc (i .imm) (r .value .outcome))
-          (dispatchesAfter (l .dispatches) (c .dispatches) k s (i .rs1) pc)
-          (badsAfter (l .bads) (c .bads) k s d (t .lines));
-    }
+-- by the class of the instruction's kind and which of its fields are zero
+unfoldable pub acceptedWith : Class → Zeros → Lent → Tally → Counts → Instruction → ℕ → Run Store (P.Modeled ℕ) → GivenApart
+acceptedWith k z l t c i address r = record {
+  refusal = 0;
+  tally = r .state .tally;
+  counts = countsAfter c (needs i address);
+  flows = r .value .flows;
+  outcome = r .value .outcome;
+  lent = lent (r .state .words)
+      (namesAfter (l .names) (c .names) k z address)
+      (edgesAfter (l .edges) (c .edges) k address (i .imm) (r .value .outcome))
+      (dispatchesAfter (l .dispatches) (c .dispatches) k z (i .rs1) address)
+      (badsAfter (l .bads) (c .bads) k z (t .lines));
+}
+
+abbrev pub acceptedApart : Lent → Tally → Counts → Instruction → ℕ → Run Store (P.Modeled ℕ) → GivenApart
+acceptedApart l t c i address r = acceptedWith (class (kindAt (i .kind))) (zerosOf i) l t c i address r
 
 abbrev pub refusedApart : ℕ → Lent → Tally → Counts → Reads → GivenApart
 refusedApart n l t c e = record { refusal = n; tally = t; counts = c; flows = flowsOf (e .flows); outcome = P.nothing; lent = l }

@@ -15,7 +15,7 @@ pub record Added (c : Counts) (n : Room) : Type 0 where
   pub bads : c .bads + n .bads < 2 ^ 64
 
 -- a call that was accepted has room for what it needs
-pub record Ready (t : Tally) (c : Counts) (needed : Room) (i : Instruction) (pc : ℕ) : Type 0 where
+pub record Ready (t : Tally) (c : Counts) (needed : Room) (i : Instruction) (address : ℕ) : Type 0 where
   pub lines : t .lines ≤ mostLines
   pub added : Added c needed
-  pub is : needed ≡ needs i pc
+  pub is : needed ≡ needs i address

@@ -2,10 +2,8 @@
 use btor2::NodeRef;
 use btor2_list::MOST_NID;
 use builder::Tally;
-use instruction_class::Class;
-use instruction_class::class_of;
-use instruction_class::is_indirect;
 use lowering_lines::lower_lines;
+use lowering_lines::name_for;
 use lowering_refusals::BAD_COUNT;
 use lowering_refusals::Counts;
 use lowering_refusals::Room;
@@ -14,7 +12,11 @@ use lowering_refusals::room_of;
 use lowering_refusals::weigh;
 use models::Flows;
 use models::Outcome;
+use riscv::Class;
 use riscv::Instruction;
+use riscv::Zeros;
+use riscv::has_bad;
+use riscv::has_dispatch;
 use roles::Reads;
 ghost use mathlib.Core.Path.{_≡_};
 ghost use mathlib.Core.Bool.{Bool, not};
@@ -25,10 +27,10 @@ ghost use Rattle.builder.specs.Append.{at, append};
 ghost use Rattle.program.specs.Prog.{exec};
 ghost use Rattle.lowering_refusals.specs.Refusal.{countsOut};
 ghost use Rattle.btor2_list.specs.Limits.{mostLines, mostNid};
-ghost use Rattle.lowering_lines.specs.Lines.{programFrom};
+ghost use Rattle.lowering_lines.specs.Lines.{nameFor, programWith};
 ghost use Rattle.lowering.specs.Lowering.{lent, linkLines, namesAfter, dispatchesAfter, badsAfter, countsAfter};
 ghost use Rattle.lowering_calls.specs.Bounds.{Added, Ready};
-ghost use Rattle.lowering_calls.specs.Apart.{givenApart, acceptedApart, callApart};
+ghost use Rattle.lowering_calls.specs.Apart.{givenApart, acceptedWith, callApart};
 
 // What a call gives apart from the roles. Where it is refused the flows are those that were read.
 pub(crate) struct Apart {
@@ -76,6 +78,8 @@ pub(crate) fn lower_apart(
         };
     }
     let needs = weighed.needs;
+    let class = weighed.class;
+    let zeros = weighed.zeros;
     accept(
         list,
         names,
@@ -86,6 +90,8 @@ pub(crate) fn lower_apart(
         c,
         e,
         needs,
+        class,
+        zeros,
         i,
         address,
     )
@@ -115,24 +121,25 @@ fn accept(
     c: Counts,
     e: Reads,
     needs: Room,
+    class: Class,
+    z: Zeros,
     i: Instruction,
     address: u64,
 ) -> Apart
     requires { ⌜ Ready t c needs i address ⌝ }
-    ensures { λ r. ⌜ givenApart r (lent (now (list .exit)) (now (names .exit)) (now (edges .exit)) (now (dispatches .exit)) (now (bads .exit))) ≡ acceptedApart (lent (now (list .entry)) (now (names .entry)) (now (edges .entry)) (now (dispatches .entry)) (now (bads .entry))) t c i address (exec append (at (now (list .entry)) t) (programFrom e (c .names) i address)) ⌝ }
+    ensures { λ r. ⌜ givenApart r (lent (now (list .exit)) (now (names .exit)) (now (edges .exit)) (now (dispatches .exit)) (now (bads .exit))) ≡ acceptedWith class z (lent (now (list .entry)) (now (names .entry)) (now (edges .entry)) (now (dispatches .entry)) (now (bads .entry))) t c i address (exec append (at (now (list .entry)) t) (programWith (nameFor class z (c .names) address) z e i address)) ⌝ }
 {
-    let class = class_of(i.kind);
-    let m = lower_lines(list, t, c.names, e, i, address);
+    let name = name_for(class, z, c.names, address);
+    let m = lower_lines(list, t, name, z, e, i, address);
     let outcome = m.outcome;
     edges::go_to_instructions(edges, c.edges, class, address, i.imm, outcome);
-    put_indirect(
+    put_jalr(
         names,
         dispatches,
         bads,
         class,
+        z,
         c,
-        i.rs1 == 0,
-        i.rd == 0,
         t.lines,
         i.rs1,
         address,
@@ -150,40 +157,39 @@ fn accept(
 }
 
 // What Jalr adds besides lines: under x0 the bad line's name and place, else a dispatch.
-fn put_indirect(
+fn put_jalr(
     names: &mut [u8],
     dispatches: &mut [u64],
     bads: &mut [u64],
     class: Class,
+    z: Zeros,
     c: Counts,
-    s: bool,
-    d: bool,
     lines: usize,
     rs1: u64,
     address: u64,
 )
     requires { ⌜ lines ≤ mostLines ⌝ }
-    ensures names { λ _. ⌜ now (names .exit) ≡ namesAfter (now (names .entry)) (c .names) class s address ⌝ }
-    ensures dispatches { λ _. ⌜ now (dispatches .exit) ≡ dispatchesAfter (now (dispatches .entry)) (c .dispatches) class s rs1 address ⌝ }
-    ensures bads { λ _. ⌜ now (bads .exit) ≡ badsAfter (now (bads .entry)) (c .bads) class s d lines ⌝ }
+    ensures names { λ _. ⌜ now (names .exit) ≡ namesAfter (now (names .entry)) (c .names) class z address ⌝ }
+    ensures dispatches { λ _. ⌜ now (dispatches .exit) ≡ dispatchesAfter (now (dispatches .entry)) (c .dispatches) class z rs1 address ⌝ }
+    ensures bads { λ _. ⌜ now (bads .exit) ≡ badsAfter (now (bads .entry)) (c .bads) class z lines ⌝ }
 {
-    if is_indirect(class) {
-        if s {
-            let place = bad_place(d, lines);
-            text::put_bad_name(names, c.names, address);
-            dispatches::put_place(bads, c.bads, place);
-            return;
-        }
+    if has_bad(class, z) {
+        let place = bad_place(z, lines);
+        text::put_bad_name(names, c.names, address);
+        dispatches::put_place(bads, c.bads, place);
+        return;
+    }
+    if has_dispatch(class, z) {
         dispatches::go_to_anywhere(dispatches, c.dispatches, rs1, address);
     }
 }
 
 // The bad line stands after the link's two lines, which there are where rd is not x0.
-fn bad_place(d: bool, lines: usize) -> NodeRef
+fn bad_place(z: Zeros, lines: usize) -> NodeRef
     requires { ⌜ lines ≤ mostLines ⌝ }
-    ensures { λ r. ⌜ r .0 ≡ lines + linkLines d ⌝ }
+    ensures { λ r. ⌜ r .0 ≡ lines + linkLines z ⌝ }
 {
-    if d {
+    if z.rd {
         return NodeRef(lines);
     }
     NodeRef(lines + 2)

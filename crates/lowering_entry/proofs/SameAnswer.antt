@@ -13,9 +13,9 @@ use Rattle.builder.specs.Append.{Store, at, append}
 use Rattle.program.specs.Prog.{Run, exec}
 use Rattle.edges.specs.Edges.{edge, edgeCount, edgesAfter}
 use Rattle.btor2_list.specs.Records.{putRecord}
-use Rattle.instruction_class.specs.declared.Class.{Class}
-use Rattle.instruction_class.specs.declared.Class.the-variants.{Plain, Access, Addition, Branch, Jump, Indirect, Call}
-use Rattle.instruction_class.specs.Class.{class}
+use Rattle.riscv.specs.declared.Class.{Class}
+use Rattle.riscv.specs.declared.Class.the-variants.{Plain, Access, Addi, Branch, Jal, Jalr, Ecall}
+use Rattle.riscv.specs.Class.{class}
 use Rattle.models.specs.Places as P
 use Rattle.models.specs.Places.{Outcome}
 use Rattle.riscv.specs.declared.Instruction.{Instruction}
@@ -85,20 +85,20 @@ module _ (es : List InEdge) (count u : ℕ) where
       edgeWords (appended es count (edgeCount c) (edgeAt ws u) (edgeAt ws (u + 1))) ≡ edgesAfter (edgeWords es) count c pc imm o
   same-edges Plain pc imm o small fits = one _ _ _ _ small fits
   same-edges Access pc imm o small fits = one _ _ _ _ small fits
-  same-edges Addition pc imm o small fits = one _ _ _ _ small fits
+  same-edges Addi pc imm o small fits = one _ _ _ _ small fits
   same-edges Branch pc imm o small fits = two _ _ _ _ _ _ small fits
-  same-edges Jump pc imm o small fits = one _ _ _ _ small fits
-  same-edges Indirect pc imm o small fits = refl
-  same-edges Call pc imm o small fits = one _ _ _ _ small fits
+  same-edges Jal pc imm o small fits = one _ _ _ _ small fits
+  same-edges Jalr pc imm o small fits = refl
+  same-edges Ecall pc imm o small fits = one _ _ _ _ small fits
 
 at-most : (c : Class) → edgeCount c ≤ 2
 at-most Plain = omega arith
 at-most Access = omega arith
-at-most Addition = omega arith
+at-most Addi = omega arith
 at-most Branch = omega arith
-at-most Jump = omega arith
-at-most Indirect = omega arith
-at-most Call = omega arith
+at-most Jal = omega arith
+at-most Jalr = omega arith
+at-most Ecall = omega arith
 
 -- ---- the same answer
 

@@ -1,6 +1,6 @@
 -- A program that has room puts its lines after those that stand, one after the other, and changes nothing else. One induction, for every
 -- program. Assumes nothing.
-use Prim.Native.Nat.{ℕ, suc, _+_, _*_, _/_, _^_, _≤_, _<_}
+use Prim.Native.Nat.{ℕ, suc, _+_, _^_, _≤_, _<_}
 use mathlib.Core.Path.{_≡_, refl, sym, _∙_, ap, subst}
 use mathlib.Core.Bool.{Bool, true, false, cond, _&&_, true≢false}
 use mathlib.Core.List.{List, [], _∷_, _++_, append-assoc, append-nil}
@@ -10,7 +10,7 @@ use borrow.Author.Tests.{lt-ltb}
 use lib.ListN.{length, getD}
 use Rattle.btor2.specs.Op as O
 use Rattle.btor2.specs.Op.{Op, Bin, hasInit, identifiers}
-use Rattle.btor2_list.specs.Record.{stride, holds, putAt}
+use Rattle.btor2_list.specs.Record.{holds, putAt, capacity, wordsFor}
 use Rattle.btor2_list.specs.Node.{Node, node, binKind, lineOf}
 use Rattle.btor2_list.specs.View.{view}
 use Rattle.btor2_list.proofs.Stored.{put-length, put-elsewhere-below, put-elsewhere-above}
@@ -26,7 +26,7 @@ use Rattle.lowering_laws.proofs.Growth.{fitting}
 
 -- the lent words hold m more lines, and the d identifiers that these take fit the record
 pub record Room (ws : List ℕ) (t : Tally) (m d : ℕ) : Type 0 where
-  pub lines : t .lines + m ≤ length ws / stride
+  pub lines : t .lines + m ≤ capacity (length ws)
   pub nids : t .nid + d < 2 ^ 32
 
 -- ---- identifiers: the append counts by the record what the line takes
@@ -77,8 +77,8 @@ pub record Laid {X : Type 0} (n k m : ℕ) (ws : List ℕ) (t : Tally) (p : Prog
   pub lines : r .state .tally .lines ≡ t .lines + m
   pub nids : r .state .tally .nid ≡ t .nid + taking (linesOf (placeAfter n) k p)
   pub size : length (r .state .words) ≡ length ws
-  pub below : (j : ℕ) → j < t .lines * stride → getD (r .state .words) j 0 ≡ getD ws j 0
-  pub above : (j : ℕ) → (t .lines + m) * stride ≤ j → getD (r .state .words) j 0 ≡ getD ws j 0
+  pub below : (j : ℕ) → j < wordsFor (t .lines) → getD (r .state .words) j 0 ≡ getD ws j 0
+  pub above : (j : ℕ) → wordsFor (t .lines + m) ≤ j → getD (r .state .words) j 0 ≡ getD ws j 0
 
 abbrev next : Tally → Op ℕ → Tally
 next t o = record { lines = t .lines + 1; nid = t .nid + identifiers o }
@@ -91,7 +91,7 @@ and-both true b e = (refl, e)
 and-both false b e = absurd (true≢false (sym e))
 
 there : (ws : List ℕ) (t : Tally) (m d : ℕ) → Room ws t (suc m) d → holds ws (t .lines) ≡ true
-there ws t m d r = lt-ltb (t .lines) (length ws / stride) (omega (arith, r .lines))
+there ws t m d r = lt-ltb (t .lines) (capacity (length ws)) (omega (arith, r .lines))
 
 append-room : (ws : List ℕ) (t : Tally) (o : Op ℕ) (m d : ℕ) → Room ws t (suc m) (identifiers o + d) → append (at ws t) o ≡ ran (at (put ws t o) (next t o)) (t .lines)
 unfolding appendLine

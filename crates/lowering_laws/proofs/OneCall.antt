@@ -5,21 +5,22 @@ use mathlib.Core.Bool.{true}
 use native.Mathlib.Omega.{arith}
 use native.Mathlib.Nat.{add-zero}
 use borrow.Author.Tests.{ne-eqb}
-use lib.Dec.{eqb, ltb}
+use lib.Dec.{ltb}
 use lib.ListN.{length}
 use Rattle.btor2.specs.declared.NodeRef.{NodeRef}
 use Rattle.program.specs.Prog.{exec}
 use Rattle.builder.specs.Append.{at, append}
-use Rattle.instruction_class.specs.Class.{class}
-use Rattle.instruction_class.proofs.Most.{at-most}
+use Rattle.riscv.specs.Class.{class}
+use Rattle.riscv.proofs.Most.{at-most}
 use Rattle.riscv.specs.declared.Instruction.{Instruction}
 use Rattle.riscv.specs.Kind.{kindAt}
+use Rattle.riscv.specs.Zeros.{zerosOf}
 use Rattle.lowering_refusals.specs.declared.State.{State}
 use Rattle.lowering_refusals.specs.Refusal.{roomOf, needsOf, refusalOf}
 use Rattle.btor2_list.specs.Limits.{mostNid}
 use Rattle.lowering_refusals.proofs.Within.{within}
 use Rattle.lowering_refusals.proofs.Accepted as A
-use Rattle.lowering_lines.specs.Lines.{nameFor, programFrom}
+use Rattle.lowering_lines.specs.Lines.{nameFor, programWith}
 use Rattle.lowering.specs.Lowering.{Lent, programOf, settled, roomIn, refused, loweringGiven, lowering}
 use Rattle.program.specs.Lines.{linesOf, placeAfter}
 use Rattle.lowering_laws.specs.Lines.{taking}
@@ -37,20 +38,20 @@ module _ (l : Lent) (st : State) (i : Instruction) (pc : ℕ) (flag : NodeRef) w
   unfolding loweringGiven
   when-refused h = rw (ne-eqb number 0 h)
 
-  small : ltb (nameFor (class (kindAt (i .kind))) (eqb (i .rs1) 0) (st .counts .names) pc .area) 256 ≡ true
-  small = name-fits (class (kindAt (i .kind))) (eqb (i .rs1) 0) (st .counts .names) pc
+  small : ltb (nameFor (class (kindAt (i .kind))) (zerosOf i) (st .counts .names) pc .area) 256 ≡ true
+  small = name-fits (class (kindAt (i .kind))) (zerosOf i) (st .counts .names) pc
 
   grown : (at : ℕ → ℕ) → length (linesOf at 0 (programOf st i pc flag)) ≡ growth i
-  unfolding programOf programFrom
-  grown at = sym (ap (λ r. length (r .lines)) (reads at _ _ _ _ _ _ (kindAt (i .kind)) _ _ _)) ∙ grows at _ _ _ _ _ _ small (kindAt (i .kind)) _ _ _
+  unfolding programOf programWith
+  grown at = sym (ap (λ r. length (r .lines)) (reads at _ _ _ _ _ _ (kindAt (i .kind)) _)) ∙ grows at _ _ _ _ _ _ small (kindAt (i .kind)) _
 
   taken : (at : ℕ → ℕ) → taking (linesOf at 0 (programOf st i pc flag)) ≡ growth i
-  unfolding programOf programFrom
-  taken at = sym (ap (λ r. taking (r .lines)) (reads at _ _ _ _ _ _ (kindAt (i .kind)) _ _ _)) ∙ takes at _ _ _ _ _ _ small (kindAt (i .kind)) _ _ _
+  unfolding programOf programWith
+  taken at = sym (ap (λ r. taking (r .lines)) (reads at _ _ _ _ _ _ (kindAt (i .kind)) _)) ∙ takes at _ _ _ _ _ _ small (kindAt (i .kind)) _
 
   fit : (at : ℕ → ℕ) → fitting (linesOf at 0 (programOf st i pc flag)) ≡ true
-  unfolding programOf programFrom
-  fit at = sym (ap (λ r. fitting (r .lines)) (reads at _ _ _ _ _ _ (kindAt (i .kind)) _ _ _)) ∙ fits at _ _ _ _ _ _ small (kindAt (i .kind)) _ _ _
+  unfolding programOf programWith
+  fit at = sym (ap (λ r. fitting (r .lines)) (reads at _ _ _ _ _ _ (kindAt (i .kind)) _)) ∙ fits at _ _ _ _ _ _ small (kindAt (i .kind)) _
 
   module _ (e : number ≡ 0) where
     nid-in : st .tally .nid ≤ mostNid
@@ -61,7 +62,7 @@ module _ (l : Lent) (st : State) (i : Instruction) (pc : ℕ) (flag : NodeRef) w
     unfolding roomOf needsOf
     room = record {
       lines = (A.roomy _ (l .list) (roomIn l) (st .tally) (st .counts) i pc (flag .0) e .lines);
-      nids = omega (arith, nid-in, at-most (kindAt (i .kind)) (eqb (i .imm) 0) (eqb (i .rd) 0) (eqb (i .rs1) 0));
+      nids = omega (arith, nid-in, at-most (kindAt (i .kind)) (zerosOf i));
     }
 
     abbrev after-them : ℕ → ℕ
@@ -79,10 +80,10 @@ module _ (l : Lent) (st : State) (i : Instruction) (pc : ℕ) (flag : NodeRef) w
       nodes = run .nodes;
       lines = run .lines;
       nids = run .nids ∙ ap (λ d. st .tally .nid + d) (taken after-them);
-      most = at-most (kindAt (i .kind)) (eqb (i .imm) 0) (eqb (i .rd) 0) (eqb (i .rs1) 0);
+      most = at-most (kindAt (i .kind)) (zerosOf i);
       list = record { size = run .size; below = run .below; above = run .above };
-      names = names-else (st .counts .names) pc (class (kindAt (i .kind))) (eqb (i .rs1) 0) (l .names);
+      names = names-else (st .counts .names) pc (class (kindAt (i .kind))) (zerosOf i) (l .names);
       edges = edges-else (class (kindAt (i .kind))) (l .edges) (st .counts .edges) pc (i .imm) _;
-      dispatches = dispatches-else (st .counts .dispatches) pc (class (kindAt (i .kind))) (eqb (i .rs1) 0) (l .dispatches) (i .rs1);
-      bads = bads-else (st .counts .bads) pc (class (kindAt (i .kind))) (eqb (i .rs1) 0) (l .bads) (eqb (i .rd) 0) (st .tally .lines);
+      dispatches = dispatches-else (st .counts .dispatches) pc (class (kindAt (i .kind))) (zerosOf i) (l .dispatches) (i .rs1);
+      bads = bads-else (st .counts .bads) pc (class (kindAt (i .kind))) (zerosOf i) (l .bads) (st .tally .lines);
     })

@@ -6,6 +6,7 @@ use mathlib.Core.List.{List, [], _∷_}
 use native.Mathlib.Omega.{arith}
 use borrow.Author.Tests.{ltb-false, eqb-true}
 use lib.Dec.{eqb, ltb}
+use Rattle.bitvec.proofs.Truth.{neither}
 use Rattle.builder.specs.declared.Tally.{Tally}
 use Rattle.riscv.specs.declared.Instruction.{Instruction}
 use Rattle.riscv.specs.Refusal.{refusal, first}
@@ -14,7 +15,6 @@ use Rattle.lowering_refusals.specs.declared.Counts.{Counts}
 use Rattle.lowering_refusals.specs.declared.Room.{Room}
 use Rattle.lowering_refusals.specs.Refusal.{countsOut, needs, roomOut, flagOut, refusalGiven}
 use Rattle.btor2_list.specs.Limits.{mostLines, mostNid}
-use Rattle.lowering_refusals.proofs.Within.{neither}
 use Rattle.lowering_refusals.proofs.Tests.{from8, from7, fromRecord, from13}
 
 -- the record's own number is none

@@ -6,13 +6,15 @@ use lib.Dec.{eqb, ltb}
 use lib.ListN.{length}
 use Rattle.btor2.specs.declared.NodeType.the-variants.{Bit}
 use Rattle.btor2.specs.Sort.{sortNumber}
-use Rattle.btor2_list.specs.Limits.{mostLines, mostNid}
-use Rattle.btor2_list.specs.Record.{stride}
+use Rattle.btor2_list.specs.Limits.{mostLines, mostNid, tallyOut}
+use Rattle.btor2_list.specs.Record.{capacity}
 use Rattle.btor2_list.specs.Look.{lookAt}
 use Rattle.builder.specs.declared.Tally.{Tally}
 use Rattle.edges.specs.Edges.{edgeStride, edgeCount, dispatchStride}
-use Rattle.instruction_class.specs.Class.{class, lineCount, needsFlag, hasBad, hasDispatch}
+use Rattle.riscv.specs.Class.{class, lineCount, needsFlag, hasBad, hasDispatch}
 use Rattle.riscv.specs.declared.Instruction.{Instruction}
+use Rattle.riscv.specs.declared.Zeros.{Zeros}
+use Rattle.riscv.specs.Zeros.{zerosOf}
 use Rattle.riscv.specs.Kind.{Kind, kindAt}
 use Rattle.riscv.specs.Refusal.{refusal, first}
 use Rattle.roles_check.specs.RolesFit.{valueSort, rolesFit}
@@ -24,7 +26,7 @@ use Rattle.lowering_refusals.specs.declared.State.{State}
 -- how many records or bytes lent storage of these lengths holds; a bad is one word
 unfoldable pub roomOf : ℕ → ℕ → ℕ → ℕ → ℕ → Room
 roomOf list names edges dispatches bads = record {
-  lines = list / stride;
+  lines = capacity list;
   names = names;
   edges = edges / edgeStride;
   dispatches = dispatches / dispatchStride;
@@ -35,21 +37,21 @@ roomOf list names edges dispatches bads = record {
 -- storage"
 abbrev pub countsOut : ℕ → Room → Tally → Counts → Bool
 countsOut most room t c =
-    ltb mostLines (t .lines) || (ltb most (t .nid) || (ltb (room .lines) (t .lines)
-    || (ltb (room .names) (c .names) || (ltb (room .edges) (c .edges) || (ltb (room .dispatches) (c .dispatches) || ltb (room .bads) (c .bads))))))
+    tallyOut most (room .lines) (t .lines) (t .nid)
+    || (ltb (room .names) (c .names) || (ltb (room .edges) (c .edges) || (ltb (room .dispatches) (c .dispatches) || ltb (room .bads) (c .bads))))
 
--- what an instruction of a kind appends; the tests are: imm is 0, rd is x0, rs1 is x0
-unfoldable pub needsOf : Kind → Bool → Bool → Bool → ℕ → Room
-needsOf k z d s pc = record {
-  lines = lineCount k z d s;
-  names = cond (hasBad (class k) s) (length (badName pc)) 0;
+-- what an instruction of a kind appends
+unfoldable pub needsOf : Kind → Zeros → ℕ → Room
+needsOf k z address = record {
+  lines = lineCount k z;
+  names = cond (hasBad (class k) z) (length (badName address)) 0;
   edges = edgeCount (class k);
-  dispatches = cond (hasDispatch (class k) s) 1 0;
-  bads = cond (hasBad (class k) s) 1 0;
+  dispatches = cond (hasDispatch (class k) z) 1 0;
+  bads = cond (hasBad (class k) z) 1 0;
 }
 
 abbrev pub needs : Instruction → ℕ → Room
-needs i pc = needsOf (kindAt (i .kind)) (eqb (i .imm) 0) (eqb (i .rd) 0) (eqb (i .rs1) 0) pc
+needs i address = needsOf (kindAt (i .kind)) (zerosOf i) address
 
 -- 8: "what this instruction appends exceeds a lent list or area, or 1,048,576 lines"
 unfoldable pub roomOut : Room → Tally → Counts → Room → Bool
@@ -60,7 +62,7 @@ roomOut room t c n =
 -- 7: "a flag is needed and is absent, outside the list or not a value line of sort Bit"
 unfoldable pub flagOut : List ℕ → ℕ → Instruction → ℕ → Bool
 flagOut ws lines i flag =
-    needsFlag (kindAt (i .kind)) (eqb (i .rd) 0) (eqb (i .rs1) 0) && not (eqb (valueSort (lookAt ws lines flag)) (sortNumber Bit))
+    needsFlag (kindAt (i .kind)) (zerosOf i) && not (eqb (valueSort (lookAt ws lines flag)) (sortNumber Bit))
 
 -- the tests of the record and of what is lent for it, whose numbers come after 9 and 13; the record's own are 1 to 6
 abbrev pub testsOfRecord : List ℕ → Room → Tally → Counts → Instruction → ℕ → ℕ → List (Bool × ℕ)

@@ -2,15 +2,30 @@
 use btor2::BIT;
 use btor2::NodeRef;
 use btor2_list::MOST_LINES;
+use btor2_list::tally_out;
 use builder::Tally;
-use instruction_class::class_of;
-use instruction_class::is_indirect;
-use instruction_class::line_count;
-use instruction_class::needs_flag;
+use riscv::Class;
 use riscv::Instruction;
+use riscv::Zeros;
+use riscv::class_of;
+use riscv::has_bad;
+use riscv::has_dispatch;
+use riscv::line_count;
+use riscv::needs_flag;
+use riscv::zeros_of;
+use roles::ROLES;
 ghost use mathlib.Core.Path.{_≡_};
-ghost use Rattle.lowering_refusals.specs.Refusal.{roomOf, countsOut, needsOf, needs as needsAt, roomOut, flagOut, testsOfRecord};
-ghost use lib.Dec.{ltb};
+ghost use Rattle.lowering_refusals.specs.Refusal.{roomOf, countsOut, needsOf, needs as needsAt, roomOut, testsOfRecord};
+ghost use mathlib.Core.Bool.{cond, not, _&&_};
+ghost use lib.Dec.{eqb, ltb};
+ghost use lib.ListN.{length};
+ghost use Rattle.btor2.specs.declared.NodeType.the-variants.{Bit};
+ghost use Rattle.btor2.specs.Sort.{sortNumber};
+ghost use Rattle.btor2_list.specs.Look.{lookAt};
+ghost use Rattle.roles_check.specs.RolesFit.{valueSort};
+ghost use Rattle.text.specs.BadName.{badName};
+ghost use Rattle.riscv.specs.Class.{class as classAt, classNeedsFlag};
+ghost use Rattle.riscv.specs.Zeros.{zerosOf};
 ghost use Prim.Native.Nat.{_+_};
 ghost use Rattle.riscv.specs.Kind.{kindAt};
 ghost use Rattle.riscv.specs.Refusal.{first};
@@ -30,7 +45,7 @@ pub struct Counts {
 pub struct State {
     pub tally: Tally,
     pub counts: Counts,
-    pub roles: [NodeRef; 79],
+    pub roles: [NodeRef; ROLES],
 }
 
 // How much lent storage holds, or an instruction needs: lines, bytes of our name area, in-edges, dispatches, bads.
@@ -42,18 +57,21 @@ pub struct Room {
     pub bads: usize,
 }
 
-// The refusal of a record, 0 where there is none, and what it needs.
+// The refusal of a record, 0 where there is none, what it needs, its kind's class, and which of its fields are zero.
 pub struct Weighed {
     pub refusal: u64,
     pub needs: Room,
+    pub class: Class,
+    pub zeros: Zeros,
 }
 
 // How much lent storage of these lengths holds.
 pub fn room_of(list: usize, names: usize, edges: usize, dispatches: usize, bads: usize) -> Room
     ensures { λ r. ⌜ r ≡ roomOf list names edges dispatches bads ⌝ }
 {
+    let lines = btor2_list::capacity(list);
     Room {
-        lines: list / btor2_list::STRIDE,
+        lines,
         names,
         edges: edges / edges::EDGE,
         dispatches: dispatches / dispatches::DISPATCH,
@@ -65,47 +83,49 @@ pub fn room_of(list: usize, names: usize, edges: usize, dispatches: usize, bads:
 pub fn counts_out(most: u64, room: Room, t: Tally, c: Counts) -> bool
     ensures { λ r. ⌜ r ≡ countsOut most room t c ⌝ }
 {
-    (MOST_LINES < t.lines)
-        | ((most < t.nid)
-            | ((room.lines < t.lines)
-                | ((room.names < c.names)
-                    | ((room.edges < c.edges)
-                        | ((room.dispatches < c.dispatches) | (room.bads < c.bads))))))
+    tally_out(most, room.lines, t.lines, t.nid)
+        | ((room.names < c.names)
+            | ((room.edges < c.edges) | ((room.dispatches < c.dispatches) | (room.bads < c.bads))))
 }
 
-// What an instruction appends. `z`, `d`, `s`: imm is 0, rd is x0, rs1 is x0.
-fn needs_of(kind: u64, z: bool, d: bool, s: bool, address: u64) -> Room
-    ensures { λ r. ⌜ r ≡ needsOf (kindAt kind) z d s address ⌝ }
+// What an instruction appends.
+fn needs_of(kind: u64, class: Class, z: Zeros, address: u64) -> Room
+    requires { ⌜ class ≡ classAt (kindAt kind) ⌝ }
+    ensures { λ r. ⌜ r ≡ needsOf (kindAt kind) z address ⌝ }
 {
-    let class = class_of(kind);
-    let lines = line_count(kind, z, d, s);
+    let lines = line_count(kind, z);
     let edges = edges::edge_count(class);
-    if is_indirect(class) {
-        if s {
-            let names = text::bad_name_len(address);
-            return Room {
-                lines,
-                names,
-                edges,
-                dispatches: 0,
-                bads: 1,
-            };
-        }
-        return Room {
-            lines,
-            names: 0,
-            edges,
-            dispatches: 1,
-            bads: 0,
-        };
-    }
+    let bad = has_bad(class, z);
+    let dispatch = has_dispatch(class, z);
+    let names = name_room(bad, address);
+    let dispatches = one_if(dispatch);
+    let bads = one_if(bad);
     Room {
         lines,
-        names: 0,
+        names,
         edges,
-        dispatches: 0,
-        bads: 0,
+        dispatches,
+        bads,
     }
+}
+
+// The bytes of the name of a bad line, where there is one.
+fn name_room(bad: bool, address: u64) -> usize
+    ensures { λ r. ⌜ r ≡ cond bad (length (badName address)) 0 ⌝ }
+{
+    if bad {
+        return text::bad_name_len(address);
+    }
+    0
+}
+
+fn one_if(b: bool) -> usize
+    ensures { λ r. ⌜ r ≡ cond b 1 0 ⌝ }
+{
+    if b {
+        return 1;
+    }
+    0
 }
 
 // The first of 1 to 6, 7 and 8 that applies to a record and what is lent for it, or 0, and what the record needs.
@@ -120,10 +140,19 @@ pub fn weigh(
 ) -> Weighed
     ensures refusal { λ r. ⌜ r .refusal ≡ first (testsOfRecord (now (list .entry)) room t c i address (flag .0)) ⌝ }
     ensures needs { λ r. ⌜ r .needs ≡ needsAt i address ⌝ }
+    ensures class { λ r. ⌜ r .class ≡ classAt (kindAt (i .kind)) ⌝ }
+    ensures zeros { λ r. ⌜ r .zeros ≡ zerosOf i ⌝ }
 {
-    let needs = needs_of(i.kind, i.imm == 0, i.rd == 0, i.rs1 == 0, address);
-    let refusal = refuse_record(list, room, t, c, needs, i, address, flag);
-    Weighed { refusal, needs }
+    let class = class_of(i.kind);
+    let zeros = zeros_of(i);
+    let needs = needs_of(i.kind, class, zeros, address);
+    let refusal = refuse_record(list, room, t, c, needs, class, zeros, i, address, flag);
+    Weighed {
+        refusal,
+        needs,
+        class,
+        zeros,
+    }
 }
 
 fn refuse_record(
@@ -132,18 +161,20 @@ fn refuse_record(
     t: Tally,
     c: Counts,
     needs: Room,
+    class: Class,
+    z: Zeros,
     i: Instruction,
     address: u64,
     flag: NodeRef,
 ) -> u64
-    requires { ⌜ needs ≡ needsAt i address ⌝ }
+    requires { ⌜ (needs ≡ needsAt i address) × (class ≡ classAt (kindAt (i .kind))) × (z ≡ zerosOf i) ⌝ }
     ensures { λ r. ⌜ r ≡ first (testsOfRecord (now (list .entry)) room t c i address (flag .0)) ⌝ }
 {
     let number = riscv::check(i);
     if number != 0 {
         return number;
     }
-    if flag_out(list, t.lines, i, flag) {
+    if flag_out(list, t.lines, class, z, flag) {
         return 7;
     }
     if room_out(room, t, c, needs) {
@@ -153,10 +184,10 @@ fn refuse_record(
 }
 
 // 7: a flag is needed, and the place given for it is no value line of sort Bit.
-fn flag_out(list: &[u64], lines: usize, i: Instruction, flag: NodeRef) -> bool
-    ensures { λ r. ⌜ r ≡ flagOut (now (list .entry)) lines i (flag .0) ⌝ }
+fn flag_out(list: &[u64], lines: usize, class: Class, z: Zeros, flag: NodeRef) -> bool
+    ensures { λ r. ⌜ r ≡ (classNeedsFlag class z && not (eqb (valueSort (lookAt (now (list .entry)) lines (flag .0))) (sortNumber Bit))) ⌝ }
 {
-    if needs_flag(i.kind, i.rd == 0, i.rs1 == 0) {
+    if needs_flag(class, z) {
         return roles_check::value_sort(list, lines, flag) != BIT;
     }
     false

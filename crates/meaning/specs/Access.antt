@@ -14,6 +14,10 @@ accessBytes k =
 abbrev pub InOneWord : Kind → ℕ → ℕ → Type 0
 InOneWord k rs1 imm = (rs1 + imm) % 2 ^ 64 % 8 + accessBytes k ≤ 8
 
+-- what is asked of a call whose flag is true, by its kind, the values of rs1 and rs2, and imm: then its lines give the manual's values
+pub record Admitted (k : Kind) (rs1 rs2 imm : ℕ) : Type 0 where
+  pub oneWord : InOneWord k rs1 imm
+
 -- the kinds that demand 3 leaves out
 abbrev pub excluded : Kind → Bool
 excluded k = oneOf k (Mul ∷ Mulw ∷ Div ∷ Divw ∷ [])

@@ -1,8 +1,9 @@
 -- The models of the other kinds, each line by line as unicorn's function of its name; kinds that differ in an operator alone share one.
 use Prim.Native.Nat.{ℕ}
-use mathlib.Core.Bool.{Bool, true, false}
+use mathlib.Core.Bool.{Bool, true, false, cond}
 use Rattle.btor2.specs.declared.NodeType.the-variants.{Bit, Word}
 use Rattle.btor2.specs.Op.{Bin, add, mul, sdiv, urem, sll, ult}
+use Rattle.riscv.specs.declared.Zeros.{Zeros}
 use Rattle.program.specs.Prog.{Prog, done, _>>=_}
 use Rattle.program.specs.OneLine.{newConst, newBin, newExt, newIte, newAndWord, newNotBit}
 use Rattle.builder_ops.specs.Composed.{newSra, newSextBy, newSext32, checkAdditionOverflow, checkMultiplicationOverflow}
@@ -28,21 +29,19 @@ module _ {A : Type 0} where
     done (gives f (register x))
 
   -- what Addi gives: where imm is 0, rs1's node itself; where rs1 is x0, a second constant; else the sum
-  unfoldable pub addiResult : Bool → Bool → ℕ → A → A → Prog A A
-  addiResult true s imm rs1 c = done rs1
-  addiResult false true imm rs1 c = newConst imm
-  addiResult false false imm rs1 c = newBin add rs1 c
+  unfoldable pub addiResult : Zeros → ℕ → A → A → Prog A A
+  addiResult z imm rs1 c = cond (z .imm) (done rs1) (cond (z .rs1) (newConst imm) (newBin add rs1 c))
 
-  unfoldable pub sumWithConstant : Bool → Bool → Operands A → Flows A → ℕ → Prog A (Modeled A)
-  sumWithConstant z s e f imm = do
+  unfoldable pub sumWithConstant : Zeros → Operands A → Flows A → ℕ → Prog A (Modeled A)
+  sumWithConstant z e f imm = do
     c ← newConst imm
-    x ← addiResult z s imm (e .rs1) c
+    x ← addiResult z imm (e .rs1) c
     overflow ← checkAdditionOverflow (e .flag) (f .addition) (e .rs1) c x
     done (gives (withAddition f overflow) (register x))
 
-  unfoldable pub modelAddi : Bool → Bool → Bool → Operands A → Flows A → ℕ → Prog A (Modeled A)
-  modelAddi true z s e f imm = done (gives f nothing)
-  modelAddi false z s e f imm = sumWithConstant z s e f imm
+  -- Addi: rd is x0 gives nothing
+  unfoldable pub modelAddi : Zeros → Operands A → Flows A → ℕ → Prog A (Modeled A)
+  modelAddi z e f imm = cond (z .rd) (done (gives f nothing)) (sumWithConstant z e f imm)
 
   unfoldable pub modelAddiw : Operands A → Flows A → ℕ → Prog A (Modeled A)
   modelAddiw e f imm = do

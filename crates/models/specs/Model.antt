@@ -1,12 +1,14 @@
--- What each of the fifty kinds appends: the first `match` of unicorn's `translate_to_model`, and Jalr's bad line.
+-- What each kind appends: the first `match` of unicorn's `translate_to_model`, and Jalr's bad line.
 use Prim.Native.Nat.{ℕ, _+_, _-_, _*_, _%_, _^_}
-use mathlib.Core.Bool.{Bool, true, false, cond, _&&_}
+use mathlib.Core.Bool.{Bool, true, false, cond}
 use mathlib.Core.List.{List, [], _∷_}
 use lib.Dec.{eqb, ltb}
 use Rattle.btor2.specs.declared.Name.{Name}
 use Rattle.btor2.specs.declared.NodeType.the-variants.{Word, Memory}
 use Rattle.btor2.specs.Op.{add, sub, udiv, sdiv, sll, srl, ult}
-use Rattle.riscv.specs.Kind.{Kind, Lui, Auipc, Lb, Lh, Lw, Ld, Lbu, Lhu, Sb, Sh, Sw, Sd, Addi, Sltiu, Xori, Ori, Andi, Slli, Srli, Srai, Addiw, Slliw, Srliw, Sraiw, Add, Sub, Sll, Sltu, Srl, Sra, Or, And, Mul, Div, Divu, Remu, Addw, Divw, Subw, Sllw, Mulw, Beq, Bne, Blt, Bge, Bltu, Bgeu, Jal, Jalr, Ecall, kindNumber, oneOf}
+use Rattle.riscv.specs.Kind.{Kind, Lui, Auipc, Lb, Lh, Lw, Ld, Lbu, Lhu, Sb, Sh, Sw, Sd, Addi, Sltiu, Xori, Ori, Andi, Slli, Srli, Srai, Addiw, Slliw, Srliw, Sraiw, Add, Sub, Sll, Sltu, Srl, Sra, Or, And, Mul, Div, Divu, Remu, Addw, Divw, Subw, Sllw, Mulw, Beq, Bne, Blt, Bge, Bltu, Bgeu, Jal, Jalr, Ecall, kindNumber}
+use Rattle.riscv.specs.Class.{class, hasBad}
+use Rattle.riscv.specs.declared.Zeros.{Zeros}
 use Rattle.program.specs.Prog.{Prog, done, _>>=_}
 use Rattle.program.specs.OneLine.{newBin, newIte, newEq, newAndWord, newBad}
 use Rattle.builder_ops.specs.Composed.{newNeq, newUgte, newSlt, newSgte, newOr, newXor, newSra}
@@ -25,71 +27,71 @@ inTable x k (row ∷ rows) = cond (eqb (kindNumber k) (kindNumber (row .0))) (ro
 
 -- the constant that a kind's lines have: its immediate, but for these kinds
 unfoldable pub constantOf : Kind → ℕ → ℕ → ℕ
-constantOf k imm pc =
+constantOf k imm address =
     inTable imm k
     ((Lui, upper imm)
-    ∷ (Auipc, (upper imm + pc) % 2 ^ 64)
+    ∷ (Auipc, (upper imm + address) % 2 ^ 64)
     ∷ (Srai, imm % 64)
     ∷ (Slliw, (imm + 32) % 2 ^ 64)
     ∷ (Srliw, (imm + 32) % 2 ^ 64)
     ∷ (Sraiw, imm % 64 + 32)
-    ∷ (Jal, (pc + 4) % 2 ^ 64)
-    ∷ (Jalr, (pc + 4) % 2 ^ 64)
+    ∷ (Jal, (address + 4) % 2 ^ 64)
+    ∷ (Jalr, (address + 4) % 2 ^ 64)
     ∷ [])
 
 module _ {A : Type 0} where
-  -- imm is its constant; the tests are: imm is 0, rd is x0, rs1 is x0
-  abbrev pub model : Operands A → Flows A → ℕ → Kind → Bool → Bool → Bool → Prog A (Modeled A)
-  model e f imm Lui z d s = constant f imm
-  model e f imm Auipc z d s = constant f imm
-  model e f imm Lb z d s = modelLoad e f z imm 56 true
-  model e f imm Lh z d s = modelLoad e f z imm 48 true
-  model e f imm Lw z d s = modelLoad e f z imm 32 true
-  model e f imm Ld z d s = modelLd e f z imm
-  model e f imm Lbu z d s = modelLoad e f z imm 56 false
-  model e f imm Lhu z d s = modelLoad e f z imm 48 false
-  model e f imm Sb z d s = modelStore e f z imm (2 ^ 8 - 1)
-  model e f imm Sh z d s = modelStore e f z imm (2 ^ 16 - 1)
-  model e f imm Sw z d s = modelStore e f z imm (2 ^ 32 - 1)
-  model e f imm Sd z d s = modelSd e f z imm
-  model e f imm Addi z d s = modelAddi d z s e f imm
-  model e f imm Sltiu z d s = modelSltiu e f imm
-  model e f imm Xori z d s = withConstant newXor e f imm
-  model e f imm Ori z d s = withConstant newOr e f imm
-  model e f imm Andi z d s = withConstant newAndWord e f imm
-  model e f imm Slli z d s = withConstant (newBin sll) e f imm
-  model e f imm Srli z d s = withConstant (newBin srl) e f imm
-  model e f imm Srai z d s = withConstant newSra e f imm
-  model e f imm Addiw z d s = modelAddiw e f imm
-  model e f imm Slliw z d s = modelSlliw e f imm
-  model e f imm Srliw z d s = shiftedBack (newBin srl) e f imm
-  model e f imm Sraiw z d s = shiftedBack newSra e f imm
-  model e f imm Add z d s = summed add e f
-  model e f imm Sub z d s = summed sub e f
-  model e f imm Sll z d s = shifted (newBin sll) e f
-  model e f imm Sltu z d s = modelSltu e f
-  model e f imm Srl z d s = shifted (newBin srl) e f
-  model e f imm Sra z d s = shifted newSra e f
-  model e f imm Or z d s = withRegister newOr e f
-  model e f imm And z d s = withRegister newAndWord e f
-  model e f imm Mul z d s = modelMul e f
-  model e f imm Div z d s = divided sdiv e f
-  model e f imm Divu z d s = divided udiv e f
-  model e f imm Remu z d s = modelRemu e f
-  model e f imm Addw z d s = summedWord add e f
-  model e f imm Divw z d s = modelDivw e f
-  model e f imm Subw z d s = summedWord sub e f
-  model e f imm Sllw z d s = modelSllw e f
-  model e f imm Mulw z d s = modelMulw e f
-  model e f imm Beq z d s = modelBranch newEq e f
-  model e f imm Bne z d s = modelBranch newNeq e f
-  model e f imm Blt z d s = modelBranch newSlt e f
-  model e f imm Bge z d s = modelBranch newSgte e f
-  model e f imm Bltu z d s = modelBranch (newBin ult) e f
-  model e f imm Bgeu z d s = modelBranch newUgte e f
-  model e f imm Jal z d s = link d f imm
-  model e f imm Jalr z d s = link d f imm
-  model e f imm Ecall z d s = modelEcall e f
+  -- imm is its constant
+  abbrev pub model : Operands A → Flows A → ℕ → Kind → Zeros → Prog A (Modeled A)
+  model e f imm Lui z = constant f imm
+  model e f imm Auipc z = constant f imm
+  model e f imm Lb z = modelLoad e f (z .imm) imm 56 true
+  model e f imm Lh z = modelLoad e f (z .imm) imm 48 true
+  model e f imm Lw z = modelLoad e f (z .imm) imm 32 true
+  model e f imm Ld z = modelLd e f (z .imm) imm
+  model e f imm Lbu z = modelLoad e f (z .imm) imm 56 false
+  model e f imm Lhu z = modelLoad e f (z .imm) imm 48 false
+  model e f imm Sb z = modelStore e f (z .imm) imm (2 ^ 8 - 1)
+  model e f imm Sh z = modelStore e f (z .imm) imm (2 ^ 16 - 1)
+  model e f imm Sw z = modelStore e f (z .imm) imm (2 ^ 32 - 1)
+  model e f imm Sd z = modelSd e f (z .imm) imm
+  model e f imm Addi z = modelAddi z e f imm
+  model e f imm Sltiu z = modelSltiu e f imm
+  model e f imm Xori z = withConstant newXor e f imm
+  model e f imm Ori z = withConstant newOr e f imm
+  model e f imm Andi z = withConstant newAndWord e f imm
+  model e f imm Slli z = withConstant (newBin sll) e f imm
+  model e f imm Srli z = withConstant (newBin srl) e f imm
+  model e f imm Srai z = withConstant newSra e f imm
+  model e f imm Addiw z = modelAddiw e f imm
+  model e f imm Slliw z = modelSlliw e f imm
+  model e f imm Srliw z = shiftedBack (newBin srl) e f imm
+  model e f imm Sraiw z = shiftedBack newSra e f imm
+  model e f imm Add z = summed add e f
+  model e f imm Sub z = summed sub e f
+  model e f imm Sll z = shifted (newBin sll) e f
+  model e f imm Sltu z = modelSltu e f
+  model e f imm Srl z = shifted (newBin srl) e f
+  model e f imm Sra z = shifted newSra e f
+  model e f imm Or z = withRegister newOr e f
+  model e f imm And z = withRegister newAndWord e f
+  model e f imm Mul z = modelMul e f
+  model e f imm Div z = divided sdiv e f
+  model e f imm Divu z = divided udiv e f
+  model e f imm Remu z = modelRemu e f
+  model e f imm Addw z = summedWord add e f
+  model e f imm Divw z = modelDivw e f
+  model e f imm Subw z = summedWord sub e f
+  model e f imm Sllw z = modelSllw e f
+  model e f imm Mulw z = modelMulw e f
+  model e f imm Beq z = modelBranch newEq e f
+  model e f imm Bne z = modelBranch newNeq e f
+  model e f imm Blt z = modelBranch newSlt e f
+  model e f imm Bge z = modelBranch newSgte e f
+  model e f imm Bltu z = modelBranch (newBin ult) e f
+  model e f imm Bgeu z = modelBranch newUgte e f
+  model e f imm Jal z = link (z .rd) f imm
+  model e f imm Jalr z = link (z .rd) f imm
+  model e f imm Ecall z = modelEcall e f
 
   -- the flow's line, ite(flag, what the model gives, the old flow); what comes out is where the flow is now
   unfoldable pub regFlowIte : A → A → Flows A → A → Prog A (Modeled A)
@@ -116,8 +118,8 @@ module _ {A : Type 0} where
     done m
 
   -- all that an instruction appends; the old flows are those of rd and of memory
-  unfoldable pub translate : Operands A → Flows A → A → A → ℕ → Name → Kind → Bool → Bool → Bool → Prog A (Modeled A)
-  translate e f register-flow memory-flow imm name k z d s = do
-    m ← model e f imm k z d s
+  unfoldable pub translate : Operands A → Flows A → A → A → ℕ → Name → Kind → Zeros → Prog A (Modeled A)
+  translate e f register-flow memory-flow imm name k z = do
+    m ← model e f imm k z
     n ← settle (e .flag) register-flow memory-flow (m .flows) (m .outcome)
-    unimplemented (oneOf k (Jalr ∷ []) && s) (e .flag) name n
+    unimplemented (hasBad (class k) z) (e .flag) name n

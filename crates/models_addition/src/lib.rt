@@ -11,29 +11,22 @@ use models::Flows;
 use models::Modeled;
 use models::Operands;
 use models::Outcome;
+use riscv::Zeros;
 ghost use Rattle.models.specs.Kinds.{constant, addiResult, sumWithConstant, modelAddi, modelAddiw};
 ghost use Rattle.builder.specs.Gives.{Gives};
 ghost use Rattle.models.specs.Code.{operandsOf, flowsOf, modeledOf};
 
 // What Addi gives: rs1 where imm is 0, a second constant where rs1 is x0, else the sum.
-fn addi_result(
-    list: &mut [u64],
-    t: Tally,
-    z: bool,
-    s: bool,
-    imm: u64,
-    rs1: NodeRef,
-    c: NodeRef,
-) -> Made
-    ensures { λ r. ⌜ Gives (now (list .entry)) t (addiResult z s imm (rs1 .0) (c .0)) (now (list .exit)) (r .tally) (r .node .0) ⌝ }
+fn addi_result(list: &mut [u64], t: Tally, z: Zeros, imm: u64, rs1: NodeRef, c: NodeRef) -> Made
+    ensures { λ r. ⌜ Gives (now (list .entry)) t (addiResult z imm (rs1 .0) (c .0)) (now (list .exit)) (r .tally) (r .node .0) ⌝ }
 {
-    if z {
+    if z.imm {
         return Made {
             tally: t,
             node: rs1,
         };
     }
-    if s {
+    if z.rs1 {
         return new_const(list, t, imm);
     }
     new_bin(list, t, Bin::Add, rs1, c)
@@ -45,13 +38,12 @@ fn sum_with_constant(
     e: Operands,
     f: Flows,
     imm: u64,
-    z: bool,
-    s: bool,
+    z: Zeros,
 ) -> Modeled
-    ensures { λ r. ⌜ Gives (now (list .entry)) t (sumWithConstant z s (operandsOf e) (flowsOf f) imm) (now (list .exit)) (r .tally) (modeledOf r) ⌝ }
+    ensures { λ r. ⌜ Gives (now (list .entry)) t (sumWithConstant z (operandsOf e) (flowsOf f) imm) (now (list .exit)) (r .tally) (modeledOf r) ⌝ }
 {
     let c = new_const(list, t, imm);
-    let x = addi_result(list, c.tally, z, s, imm, e.rs1, c.node);
+    let x = addi_result(list, c.tally, z, imm, e.rs1, c.node);
     let overflow = check_addition_overflow(
         list,
         x.tally,
@@ -73,26 +65,17 @@ fn sum_with_constant(
     }
 }
 
-pub fn model_addi(
-    list: &mut [u64],
-    t: Tally,
-    e: Operands,
-    f: Flows,
-    imm: u64,
-    d: bool,
-    z: bool,
-    s: bool,
-) -> Modeled
-    ensures { λ r. ⌜ Gives (now (list .entry)) t (modelAddi d z s (operandsOf e) (flowsOf f) imm) (now (list .exit)) (r .tally) (modeledOf r) ⌝ }
+pub fn model_addi(list: &mut [u64], t: Tally, e: Operands, f: Flows, imm: u64, z: Zeros) -> Modeled
+    ensures { λ r. ⌜ Gives (now (list .entry)) t (modelAddi z (operandsOf e) (flowsOf f) imm) (now (list .exit)) (r .tally) (modeledOf r) ⌝ }
 {
-    if d {
+    if z.rd {
         return Modeled {
             tally: t,
             flows: f,
             outcome: Outcome::Nothing,
         };
     }
-    sum_with_constant(list, t, e, f, imm, z, s)
+    sum_with_constant(list, t, e, f, imm, z)
 }
 
 pub fn model_addiw(list: &mut [u64], t: Tally, e: Operands, f: Flows, imm: u64) -> Modeled

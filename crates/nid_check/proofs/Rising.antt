@@ -1,5 +1,5 @@
 -- One identifier after the other, one line after the other. Assumes nothing.
-use Prim.Native.Nat.{ℕ, _+_, _*_, _≤_, _<_}
+use Prim.Native.Nat.{ℕ, _+_, _≤_, _<_}
 use mathlib.Core.Path.{_≡_, refl, sym, _∙_, ap}
 use mathlib.Core.Bool.{Bool, true, false, cond, not, _&&_, _||_, or-true, true≢false, false≢true}
 use mathlib.Core.List.{List, [], _∷_, _++_}
@@ -11,7 +11,7 @@ use lib.ListN.{length, drop, drop-of-length-le}
 use lib.Seq.{drop-cons}
 use Rattle.bitvec.proofs.Base.{by-le}
 use Rattle.btor2.specs.Op.{unknown, hasInit}
-use Rattle.btor2_list.specs.Record.{stride, lineAt}
+use Rattle.btor2_list.specs.Record.{recordAt}
 use Rattle.btor2_list.specs.Node.{Node, node, nodeOf}
 use Rattle.btor2_list.specs.View.{view}
 use Rattle.btor2_list.proofs.View.{view-length, view-at}
@@ -82,19 +82,19 @@ module _ (next last : ℕ) (x : Node) (us : List ℕ) where
 -- ---- the lines of the words from line i on
 
 module _ (ws : List ℕ) (n next last i : ℕ) where
-  rest : i < n → drop i (view ws n) ≡ nodeOf (lineAt ws (i * stride)) ∷ drop (i + 1) (view ws n)
+  rest : i < n → drop i (view ws n) ≡ nodeOf (recordAt ws i) ∷ drop (i + 1) (view ws n)
   rest h =
       rw (add-one, ← view-at ws n (node 0 unknown) i h)
       (drop-cons (view ws n) i (node 0 unknown) (rw (view-length ws n) h))
 
-  pub rise-on : i < n → (t : ℕ) → riseOf next last (nodeOf (lineAt ws (i * stride))) ≡ To t
+  pub rise-on : i < n → (t : ℕ) → riseOf next last (nodeOf (recordAt ws i)) ≡ To t
       → outFrom next t (taken (drop (i + 1) (view ws n))) ≡ outFrom next last (taken (drop i (view ws n)))
   unfolding taken
-  rise-on h t e = rw (rest h) (sym (line-on next last (nodeOf (lineAt ws (i * stride))) (taken (drop (i + 1) (view ws n))) t e))
+  rise-on h t e = rw (rest h) (sym (line-on next last (nodeOf (recordAt ws i)) (taken (drop (i + 1) (view ws n))) t e))
 
-  pub rise-hit : i < n → riseOf next last (nodeOf (lineAt ws (i * stride))) ≡ Out → outFrom next last (taken (drop i (view ws n))) ≡ true
+  pub rise-hit : i < n → riseOf next last (nodeOf (recordAt ws i)) ≡ Out → outFrom next last (taken (drop i (view ws n))) ≡ true
   unfolding taken
-  rise-hit h e = rw (rest h) (line-hit next last (nodeOf (lineAt ws (i * stride))) (taken (drop (i + 1) (view ws n))) e)
+  rise-hit h e = rw (rest h) (line-hit next last (nodeOf (recordAt ws i)) (taken (drop (i + 1) (view ws n))) e)
 
   pub rise-end : n ≤ i → 17 < next → outFrom next last (taken (drop i (view ws n))) ≡ false
   unfolding taken rising

@@ -2,15 +2,15 @@
 use btor2::NodeRef;
 use btor2_list::Found;
 use btor2_list::Line;
-use btor2_list::STRIDE;
+use btor2_list::capacity;
 use btor2_list::get;
 use line_operator::Operator;
 use line_operator::operator_of;
 ghost use mathlib.Core.Path.{_≡_};
 ghost use mathlib.Core.Bool.{cond};
-ghost use Prim.Native.Nat.{_+_, _*_, _<_};
+ghost use Prim.Native.Nat.{_+_, _<_};
 ghost use Rattle.btor2.specs.Op.{hasInit};
-ghost use Rattle.btor2_list.specs.Record.{stride, holds, lineAt};
+ghost use Rattle.btor2_list.specs.Record.{holds, recordAt};
 ghost use Rattle.btor2_list.specs.Node.{nodeOf, opOf};
 ghost use Rattle.nid_check.specs.declared.Rise.the-variants.{Out, To};
 ghost use Rattle.nid_check.specs.Identifiers.{reserved, nidsOutWords};
@@ -30,7 +30,7 @@ pub enum Rise {
 pub fn nids_out(list: &[u64], lines: usize, next: u64) -> bool
     ensures { λ r. ⌜ r ≡ nidsOutWords (now (list .entry)) lines next ⌝ }
 {
-    if list.len() / STRIDE < lines {
+    if capacity(list.len()) < lines {
         return true;
     }
     if next <= LAST_SORT {
@@ -54,7 +54,7 @@ pub fn nids_out(list: &[u64], lines: usize, next: u64) -> bool
 
 // The identifiers that line i takes, after the last one taken before it.
 fn line_rises(list: &[u64], i: usize, last: u64, next: u64) -> Rise
-    ensures { λ r. ⌜ r ≡ cond (holds (now (list .entry)) i) (riseOf next last (nodeOf (lineAt (now (list .entry)) (i * stride)))) Out ⌝ }
+    ensures { λ r. ⌜ r ≡ cond (holds (now (list .entry)) i) (riseOf next last (nodeOf (recordAt (now (list .entry)) i))) Out ⌝ }
 {
     match get(list, NodeRef(i)) {
         Found::Line(line) => rise_of(line, last, next),

@@ -1,12 +1,12 @@
 -- What only private contracts cite.
-use Prim.Native.Nat.{ℕ, _*_}
+use Prim.Native.Nat.{ℕ}
 use mathlib.Core.Bool.{Bool}
 use mathlib.Core.List.{List}
-use Rattle.btor2_list.specs.Record.{stride, lineAt}
+use Rattle.btor2_list.specs.Record.{recordAt}
 use Rattle.btor2_list.specs.Node.{opOf}
 use Rattle.list_check.specs.Operand.{noValueAt}
 use Rattle.operand_check.specs.Broken.{opBroken}
 
 -- of the record at place p, by lookups of its operands
 abbrev pub recordBroken : List ℕ → ℕ → Bool
-recordBroken ws p = opBroken (noValueAt ws p) (opOf (lineAt ws (p * stride)))
+recordBroken ws p = opBroken (noValueAt ws p) (opOf (recordAt ws p))

@@ -2,16 +2,16 @@
 use btor2::NodeRef;
 use btor2_list::Found;
 use btor2_list::Looked;
-use btor2_list::STRIDE;
+use btor2_list::capacity;
 use btor2_list::get;
 use btor2_list::look;
 use line_operator::Operator;
 use line_operator::operator_of;
 ghost use mathlib.Core.Path.{_≡_};
 ghost use mathlib.Core.List.{[], _∷_};
-ghost use Prim.Native.Nat.{_/_, _<_};
+ghost use Prim.Native.Nat.{_<_};
 ghost use lib.ListN.{length};
-ghost use Rattle.btor2_list.specs.Record.{stride};
+ghost use Rattle.btor2_list.specs.Record.{capacity};
 ghost use Rattle.line_operator.specs.Operator.{opFrom};
 ghost use Rattle.list_check.specs.Lines.{any};
 ghost use Rattle.list_check.specs.Operand.{noValueAt};
@@ -22,7 +22,7 @@ ghost use Rattle.operand_check.specs.Inside.{recordBroken};
 pub fn broken(list: &[u64], lines: usize) -> bool
     ensures { λ r. ⌜ r ≡ brokenWords (now (list .entry)) lines ⌝ }
 {
-    if list.len() / STRIDE < lines {
+    if capacity(list.len()) < lines {
         return true;
     }
     let mut i = 0;
@@ -36,7 +36,7 @@ pub fn broken(list: &[u64], lines: usize) -> bool
 }
 
 fn line_broken(list: &[u64], i: usize) -> bool
-    requires { ⌜ i < length (now list) / stride ⌝ }
+    requires { ⌜ i < capacity (length (now list)) ⌝ }
     ensures { λ r. ⌜ r ≡ recordBroken (now (list .entry)) i ⌝ }
 {
     match get(list, NodeRef(i)) {

@@ -1,5 +1,5 @@
 -- The room that a line, and a run of lines, takes at most, where identifiers are in bounds. Assumes nothing.
-use Prim.Native.Nat.{ℕ, zero, suc, _+_, _-_, _*_, _/_, _%_, _^_, _≤_, _<_}
+use Prim.Native.Nat.{ℕ, zero, suc, _+_, _-_, _*_, _%_, _^_, _≤_, _<_}
 use mathlib.Core.Path.{_≡_, refl, ap, _∙_}
 use mathlib.Core.Bool.{Bool, true, false, cond, _||_}
 use mathlib.Core.List.{List, [], _∷_, _++_}
@@ -21,7 +21,7 @@ use Rattle.btor2.specs.declared.MaybeSort.the-variants.{Sort, NoSort}
 use Rattle.btor2.specs.Sort.{sortNumber, sortNumbered, width}
 use Rattle.btor2.specs.Op.{Bin, add, sub, mul, udiv, sdiv, urem, sll, srl, ult, Op, const, read, write, bin, uext, ite, eq, and, or, not, state, stateInit, next, input, bad, unknown, mapOp, binSort}
 use Rattle.btor2_list.specs.declared.Line.{Line}
-use Rattle.btor2_list.specs.Record.{stride, hasName, lineAt}
+use Rattle.btor2_list.specs.Record.{hasName, recordAt, capacity}
 use Rattle.btor2_list.specs.Node.{Node, withSort, opOf}
 use Rattle.text.specs.Ascii.{ascii}
 use Rattle.node_text.specs.Row.{nameText, numbersText, rowText}
@@ -146,11 +146,11 @@ pub rooms-suc : (ws : List ℕ) (n : ℕ) → rooms ws (n + 1) ≡ rooms ws n + 
 unfolding rooms
 rooms-suc ws n = rw add-one
 
-module _ (ws : List ℕ) (lines : ℕ) (host ours : List ℕ) (in-bounds : nidsTooLarge ws lines ≡ false) (held : lines ≤ length ws / stride) where
+module _ (ws : List ℕ) (lines : ℕ) (host ours : List ℕ) (in-bounds : nidsTooLarge ws lines ≡ false) (held : lines ≤ capacity (length ws)) where
   at-place : (p : ℕ) → p < lines → length (nodeText host ours (nodes ws lines) (nodeAt (nodes ws lines) p)) ≤ 53 + nameRoom (said ws p)
   at-place p h =
-      let there : p < length ws / stride = omega arith in
-      let is = got ws lines p (lineAt ws (p * stride)) (rw (lt-ltb _ _ there)) h in
+      let there : p < capacity (length ws) = omega arith in
+      let is = got ws lines p (recordAt ws p) (rw (lt-ltb _ _ there)) h in
       let e : nameRoom (nodeAt (nodes ws lines) p .op) ≡ nameRoom (said ws p) = ap (λ (n : Node). nameRoom (n .op)) is in
       let most = line-most (printedName host ours) (nidAt (nodes ws lines)) (nidAt (nodes ws lines) p) (λ q. omega (arith, nid-most ws lines in-bounds q)) (omega (arith, nid-most ws lines in-bounds p)) (name-most host ours) (nodeAt (nodes ws lines) p .op) in
       omega (arith, e, most)
@@ -221,7 +221,7 @@ module _ (l : Line) where
 -- what the check of a line finds tells whether it is well formed, and the room for its name
 module _ (ws : List ℕ) (i host ours names r : ℕ) where
   abbrev line : Line
-  line = lineAt ws (i * stride)
+  line = recordAt ws i
 
   by-kind : (b : Bool) → hasName (line .kind) ≡ b → roomWith (cond b (Named (line .name .len)) Unnamed) names r → names + nameRoom (said ws i) ≤ r
   by-kind true e h = omega (arith, rw e at (room-most line))

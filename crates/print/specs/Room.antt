@@ -1,24 +1,22 @@
 -- What only private contracts cite: a list with no refusal but perhaps 14, and the room that its text takes at most.
-use Prim.Native.Nat.{ℕ, zero, suc, _+_, _*_, _/_, _≤_}
+use Prim.Native.Nat.{ℕ, zero, suc, _+_, _*_, _≤_}
 use mathlib.Core.Path.{_≡_}
-use mathlib.Core.Bool.{Bool, false, _||_}
+use mathlib.Core.Bool.{false}
 use mathlib.Core.List.{List}
-use lib.Dec.{ltb}
 use lib.ListN.{length}
 use Rattle.btor2.specs.Op.{Op, const, read, write, bin, uext, ite, eq, and, or, not, state, stateInit, next, input, bad, unknown}
-use Rattle.btor2_list.specs.Limits.{mostLines}
-use Rattle.btor2_list.specs.Record.{stride, lineAt}
+use Rattle.btor2_list.specs.Record.{recordAt, capacity}
 use Rattle.btor2_list.specs.Node.{opOf}
 use Rattle.list_check.specs.declared.Checked.{Checked}
 use Rattle.list_check.specs.declared.Checked.the-variants.{Unformed, Unnamed, Named}
-use Rattle.list_check.specs.Lines.{some, pastWords}
-use Rattle.list_check.specs.Formed.{opUnformed, unformedWords}
+use Rattle.list_check.specs.Lines.{some}
+use Rattle.list_check.specs.Formed.{opUnformed}
 use Rattle.list_check.specs.Operand.{noValueAt}
-use Rattle.print.specs.Printing.{nidTooLarge, nidsTooLarge, boundsOut}
+use Rattle.print.specs.Printing.{nidTooLarge, nidsTooLarge, wholeRefusal}
 
 -- what the record at place p says
 abbrev pub said : List ℕ → ℕ → Op ℕ
-said ws p = opOf (lineAt ws (p * stride))
+said ws p = opOf (recordAt ws p)
 
 -- how many bytes more than 53 a line takes at most: a named one has its name, or `?`, and perhaps a second row
 abbrev pub nameRoom : Op ℕ → ℕ
@@ -50,10 +48,6 @@ roomWith Unformed names r = ⊥
 roomWith Unnamed names r = names ≤ r
 roomWith (Named len) names r = names + (10 + len) ≤ r
 
--- 9 but for the identifiers
-abbrev pub runOut : List ℕ → ℕ → ℕ → ℕ → Bool
-runOut ws lines from count = ltb mostLines lines || (pastWords ws lines || ltb lines (from + count))
-
 -- the first n lines have neither 9 nor 11, and r has room for their names
 pub record Surveyed (ws : List ℕ) (lines host ours n r : ℕ) : Type 0 where
   pub nids : some n (nidTooLarge ws lines) ≡ false
@@ -61,9 +55,8 @@ pub record Surveyed (ws : List ℕ) (lines host ours n r : ℕ) : Type 0 where
   pub room : rooms ws n ≤ r
 
 pub record Roomy (ws : List ℕ) (lines host ours from count end : ℕ) : Type 0 where
-  pub in-bounds : boundsOut ws lines from count ≡ false
+  pub whole : wholeRefusal ws lines host ours ≡ 0
   pub nids : nidsTooLarge ws lines ≡ false
-  pub held : lines ≤ length ws / stride
+  pub held : lines ≤ capacity (length ws)
   pub inside : from + count ≤ lines
-  pub formed : unformedWords ws lines host ours ≡ false
   pub room : 53 * count + rooms ws lines ≤ end

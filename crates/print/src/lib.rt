@@ -1,15 +1,17 @@
 // Prints a run of the list's lines into an output, or refuses.
 use btor2::NodeRef;
-use btor2_list::MOST_LINES;
 use btor2_list::MOST_NID;
+use btor2_list::list_out;
 use list_check::Checked;
 ghost use mathlib.Core.Path.{_≡_};
 ghost use mathlib.Core.Bool.{true};
-ghost use Prim.Native.Nat.{_+_, _-_, _/_, _^_, _<_, _≤_, min};
+ghost use Prim.Native.Nat.{_+_, _-_, _^_, _<_, _≤_, min};
+ghost use lib.Dec.{ltb};
 ghost use lib.ListN.{length};
+ghost use Rattle.btor2_list.specs.Record.{capacity};
 ghost use Rattle.line_text.specs.Line.{nodes, runText};
-ghost use Rattle.print.specs.Room.{runOut, roomWith, Surveyed, Roomy};
-ghost use Rattle.print.specs.Printing.{nidsTooLarge, boundsOut, answerOf, printOutcome, printing};
+ghost use Rattle.print.specs.Room.{roomWith, Surveyed, Roomy};
+ghost use Rattle.print.specs.Printing.{nidsTooLarge, wholeRefusal, answerOf, printOutcome, printing};
 
 // The most bytes of a line of such an identifier, and how many more one with a name has besides the name: a State has a second row.
 const LINE_ROOM: usize = 53;
@@ -43,11 +45,12 @@ pub fn print<'a>(
         let n = line_text::put_run(out, 0, list, lines, host, ours, from, count);
         return Printed::Written(n);
     }
-    if bounds_out(list, lines, from, count) {
+    if run_outside(lines, from, count) {
         return Printed::Refused(9);
     }
-    if list_check::unformed(list, lines, host.len(), ours.len()) {
-        return Printed::Refused(11);
+    let number = check_whole(list, lines, host.len(), ours.len());
+    if number != 0 {
+        return Printed::Refused(number);
     }
     let n = run_len(list, lines, host, ours, from, count);
     if out.len() < n {
@@ -69,7 +72,7 @@ fn roomy(
 ) -> bool
     ensures { λ r. ⌜ (r ≡ true → Roomy (now (list .entry)) lines host ours from count end) ⌝ }
 {
-    if run_out(list, lines, from, count) {
+    if list_out(list, lines) | run_outside(lines, from, count) {
         return false;
     }
     let names = survey(list, lines, host, ours);
@@ -82,14 +85,14 @@ fn roomy(
 // The room for the names of all lines, or the largest number where a line has too large an identifier or is not well formed: one pass for
 // both, as the list is longer than caches are.
 fn survey(list: &[u64], lines: usize, host: usize, ours: usize) -> usize
-    requires { ⌜ lines ≤ length (now list) / 4 ⌝ }
+    requires { ⌜ lines ≤ capacity (length (now list)) ⌝ }
     ensures { λ r. ⌜ (r < 2 ^ 64 - 1 → Surveyed (now (list .entry)) lines host ours lines r) ⌝ }
 {
     let mut names = 0;
     let mut i = 0;
     while i < lines {
-        let at = i * btor2_list::STRIDE;
-        if MOST_NID < list[at] / btor2_list::NID_UNIT {
+        let nid = line_text::nid_at(list, lines, NodeRef(i));
+        if MOST_NID < nid.0 {
             return LAST;
         }
         names = with_name(list_check::check_line(list, i, host, ours), names);
@@ -126,30 +129,31 @@ fn more(names: usize, len: u64) -> usize
     names + NAMED_ROOM + len as usize
 }
 
-// 9, but for the identifiers: too many lines, a count above its storage, or a run outside the list.
-fn run_out(list: &[u64], lines: usize, from: usize, count: usize) -> bool
-    ensures { λ r. ⌜ r ≡ runOut (now (list .entry)) lines from count ⌝ }
+// The run reaches past the list's lines.
+fn run_outside(lines: usize, from: usize, count: usize) -> bool
+    ensures { λ r. ⌜ r ≡ ltb lines (from + count) ⌝ }
 {
-    if MOST_LINES < lines {
-        return true;
-    }
-    if list.len() / btor2_list::STRIDE < lines {
-        return true;
-    }
     if lines < from {
         return true;
     }
     lines - from < count
 }
 
-// 9: too many lines, a count above its storage, a run outside the list, or too large an identifier.
-fn bounds_out(list: &[u64], lines: usize, from: usize, count: usize) -> bool
-    ensures { λ r. ⌜ r ≡ boundsOut (now (list .entry)) lines from count ⌝ }
+// The first of 9 and 11 that applies to a whole list, or 0: too many lines, a count above its storage or too large an identifier; a line that is
+// not well formed. `host` and `ours` are the lengths of the two name areas. Nothing is written.
+pub fn check_whole(list: &[u64], lines: usize, host: usize, ours: usize) -> u64
+    ensures { λ r. ⌜ r ≡ wholeRefusal (now (list .entry)) lines host ours ⌝ }
 {
-    if run_out(list, lines, from, count) {
-        return true;
+    if list_out(list, lines) {
+        return 9;
     }
-    nids_too_large(list, lines)
+    if nids_too_large(list, lines) {
+        return 9;
+    }
+    if list_check::unformed(list, lines, host, ours) {
+        return 11;
+    }
+    0
 }
 
 // Some line has an identifier above the largest.

@@ -3,3 +3,4 @@ pub mod Numbered
 pub mod InOneCell
 mod Examples
 pub mod EachKind
+pub mod Most

@@ -1,24 +1,23 @@
 -- A kind is what its number says. Assumes nothing.
 use Prim.Native.Nat.{ℕ, _≤_, _<_}
-use mathlib.Core.Path.{_≡_, refl, sym, ap, _∙_}
-use mathlib.Core.Bool.{Bool}
-use mathlib.Core.Logic.{⊎-elim}
-use native.Mathlib.Nat.{eq-or-lt-of-le}
+use mathlib.Core.Path.{_≡_, refl, sym, _∙_}
+use mathlib.Core.Bool.{Bool, true, false, not, _&&_, true≢false}
+use mathlib.Core.List.{List}
 use native.Mathlib.Omega.{arith}
-use borrow.Author.Tests.{ne-eqb}
-use lib.Dec.{eqb, eqb→eq}
+use borrow.Author.Tests.{ne-eqb, eq-eqb}
+use lib.Dec.{T, eqb, ltb, eqb→eq, ltb→lt}
 use lib.ListN.{List·getD-eq-default}
 use Rattle.bitvec.proofs.Base.{by-le}
-use Rattle.riscv.specs.Kind.{Kind, Lui, Auipc, Lb, Lh, Lw, Ld, Lbu, Lhu, Sb, Sh, Sw, Sd, Addi, Sltiu, Xori, Ori, Andi, Slli, Srli, Srai, Addiw, Slliw, Srliw, Sraiw, Add, Sub, Sll, Sltu, Srl, Sra, Or, And, Mul, Div, Divu, Remu, Addw, Divw, Subw, Sllw, Mulw, Beq, Bne, Blt, Bge, Bltu, Bgeu, Jal, Jalr, Ecall, kinds, kindAt, kindNumber}
-use Rattle.bitvec.proofs.Below.{at}
-use Rattle.bitvec.proofs.LastArm.{NoneFrom, past}
+use Rattle.riscv.specs.Kind.{Kind, Lui, Auipc, Lb, Lh, Lw, Ld, Lbu, Lhu, Sb, Sh, Sw, Sd, Addi, Sltiu, Xori, Ori, Andi, Slli, Srli, Srai, Addiw, Slliw, Srliw, Sraiw, Add, Sub, Sll, Sltu, Srl, Sra, Or, And, Mul, Div, Divu, Remu, Addw, Divw, Subw, Sllw, Mulw, Beq, Bne, Blt, Bge, Bltu, Bgeu, Jal, Jalr, Ecall, kinds, kindCount, kindAt, kindNumber}
+use Rattle.bitvec.proofs.Below.{at, left, right}
+use Rattle.bitvec.proofs.LastArm.{NoneFrom, NoneOf, among, differs, past}
 
 same : ℕ → Bool
 same n = eqb (kindNumber (kindAt n)) n
 
-pub number-at : (n : ℕ) → n < 50 → kindNumber (kindAt n) ≡ n
+pub number-at : (n : ℕ) → n < kindCount → kindNumber (kindAt n) ≡ n
 unfolding same
-number-at n h = eqb→eq (kindNumber (kindAt n)) n (at 50 same tt n h)
+number-at n h = eqb→eq (kindNumber (kindAt n)) n (at kindCount same tt n h)
 
 pub kind-back : (k : Kind) → kindAt (kindNumber k) ≡ k
 kind-back Lui = refl
@@ -73,20 +72,32 @@ kind-back Jalr = refl
 kind-back Ecall = refl
 
 -- what is no other kind is Ecall
-pub kind-past : (n : ℕ) → 49 ≤ n → kindAt n ≡ Ecall
-kind-past n h =
-    ⊎-elim
-    (λ e. ap kindAt (sym e))
-    (λ l. List·getD-eq-default kinds Ecall {n = n} (omega arith))
-    (eq-or-lt-of-le h)
+pub kind-past : (n : ℕ) → kindCount ≤ n → kindAt n ≡ Ecall
+kind-past n h = List·getD-eq-default kinds Ecall {n = n} h
 
 -- which is what the last arm of a match on a kind's number knows
-pub last-kind : (n : ℕ) → NoneFrom 0 49 n → kindAt n ≡ Ecall
-last-kind n none = kind-past n (past 0 49 n none (omega arith))
+pub last-kind : (n : ℕ) → NoneFrom 0 kindCount n → kindAt n ≡ Ecall
+last-kind n none = kind-past n (past 0 kindCount n none (omega arith))
 
--- so a kind but Ecall is told by its number
-pub told : (n m : ℕ) → m < 49 → eqb (kindNumber (kindAt n)) m ≡ eqb n m
+-- a number of a kind but Ecall
+abbrev pub other : ℕ → Bool
+other m = ltb m kindCount && not (eqb m (kindNumber Ecall))
+
+-- so such a kind is told by its number
+pub told : (n m : ℕ) → T (other m) → eqb (kindNumber (kindAt n)) m ≡ eqb n m
 told n m h =
-    by-le 49 n
-    (λ l. rw (kind-past n l) (ne-eqb 49 m (λ e. omega arith) ∙ sym (ne-eqb n m (λ e. omega arith))))
-    (λ l. rw (number-at n (omega arith)))
+    let within : m < kindCount = ltb→lt m kindCount (left (ltb m kindCount) (not (eqb m (kindNumber Ecall))) h) in
+    by-le kindCount n
+    (λ l. rw (kind-past n l) (differ (eqb m (kindNumber Ecall)) refl (right (ltb m kindCount) (not (eqb m (kindNumber Ecall))) h) ∙ sym (ne-eqb n m (λ e. apart n m e l within))))
+    (λ l. rw (number-at n l))
+  where
+    apart : (n m : ℕ) → n ≡ m → kindCount ≤ n → m < kindCount → ⊥
+    apart n m e l h = omega arith
+
+    differ : (b : Bool) → eqb m (kindNumber Ecall) ≡ b → T (not b) → eqb (kindNumber Ecall) m ≡ false
+    differ true e h = absurd h
+    differ false e h = ne-eqb (kindNumber Ecall) m (λ q. true≢false (sym (eq-eqb m (kindNumber Ecall) (sym q)) ∙ e))
+
+-- and is none of the arms before the last
+pub none-of : (arms : List ℕ) (n : ℕ) → NoneOf arms n → (m : ℕ) → T (other m && among m arms) → eqb (kindNumber (kindAt n)) m ≡ false
+none-of arms n none m h = told n m (left (other m) (among m arms) h) ∙ differs arms n none m (right (other m) (among m arms) h)

@@ -1,64 +1,14 @@
--- The instruction formats: RISC-V Unprivileged ISA manual (20191213), sections 2.2, "Base Instruction Formats", and 2.3, "Immediate
+-- What a format says of its fields: RISC-V Unprivileged ISA manual (20191213), sections 2.2, "Base Instruction Formats", and 2.3, "Immediate
 -- Encoding Variants", with the ranges of document 01's refusal 2.
 use Prim.Native.Nat.{ℕ, _-_, _%_, _^_}
 use mathlib.Core.Bool.{Bool, true, false, _&&_, _||_, not}
 use lib.Dec.{eqb, ltb, leb}
 use Rattle.riscv.specs.declared.Format.{Format}
 use Rattle.riscv.specs.declared.Format.the-variants.{R, I, S, B, U, J, System}
-use Rattle.riscv.specs.Kind.{Kind, Lui, Auipc, Lb, Lh, Lw, Ld, Lbu, Lhu, Sb, Sh, Sw, Sd, Addi, Sltiu, Xori, Ori, Andi, Slli, Srli, Srai, Addiw, Slliw, Srliw, Sraiw, Add, Sub, Sll, Sltu, Srl, Sra, Or, And, Mul, Div, Divu, Remu, Addw, Divw, Subw, Sllw, Mulw, Beq, Bne, Blt, Bge, Bltu, Bgeu, Jal, Jalr, Ecall}
+use Rattle.riscv.specs.Kind.{Kind, row}
 
--- ECALL is encoded as an I-format instruction, all of whose fields are fixed: none of the record's is used
 abbrev pub format : Kind → Format
-format Lui = U
-format Auipc = U
-format Lb = I
-format Lh = I
-format Lw = I
-format Ld = I
-format Lbu = I
-format Lhu = I
-format Sb = S
-format Sh = S
-format Sw = S
-format Sd = S
-format Addi = I
-format Sltiu = I
-format Xori = I
-format Ori = I
-format Andi = I
-format Slli = I
-format Srli = I
-format Srai = I
-format Addiw = I
-format Slliw = I
-format Srliw = I
-format Sraiw = I
-format Add = R
-format Sub = R
-format Sll = R
-format Sltu = R
-format Srl = R
-format Sra = R
-format Or = R
-format And = R
-format Mul = R
-format Div = R
-format Divu = R
-format Remu = R
-format Addw = R
-format Divw = R
-format Subw = R
-format Sllw = R
-format Mulw = R
-format Beq = B
-format Bne = B
-format Blt = B
-format Bge = B
-format Bltu = B
-format Bgeu = B
-format Jal = J
-format Jalr = I
-format Ecall = System
+format k = row k .format
 
 -- x0 to x31
 abbrev pub lastRegister : ℕ

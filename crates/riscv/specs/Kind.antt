@@ -1,9 +1,15 @@
--- The fifty kinds of instruction, in the order of the first `match` of unicorn's `translate_to_model`, as the Rust spells them.
+-- The kinds of instruction, in the order of the first `match` of unicorn's `translate_to_model`, and the row of each.
 use Prim.Native.Nat.{ℕ}
+use Prim.Native.String.{String}
 use mathlib.Core.Bool.{Bool, false, _||_}
-use mathlib.Core.List.{List, [], _∷_}
+use mathlib.Core.List.{List, [], _∷_, map}
 use lib.Dec.{eqb}
-use lib.ListN.{getD}
+use lib.ListN.{length, getD}
+use Rattle.riscv.specs.Name.{bytes}
+use Rattle.riscv.specs.declared.Format.{Format}
+use Rattle.riscv.specs.declared.Format.the-variants.{R, I, S, B, U, J, System}
+use Rattle.riscv.specs.declared.Class.{Class}
+use Rattle.riscv.specs.declared.Class.the-variants.{Plain, Access, Branch}
 
 pub data Kind : Type 0 where
   Lui Auipc Lb Lh Lw Ld Lbu Lhu Sb Sh Sw Sd Addi Sltiu Xori Ori Andi Slli Srli Srai Addiw Slliw Srliw Sraiw Add Sub
@@ -16,60 +22,88 @@ kinds =
     Srai ∷ Addiw ∷ Slliw ∷ Srliw ∷ Sraiw ∷ Add ∷ Sub ∷ Sll ∷ Sltu ∷ Srl ∷ Sra ∷ Or ∷ And ∷ Mul ∷ Div ∷ Divu ∷ Remu ∷
     Addw ∷ Divw ∷ Subw ∷ Sllw ∷ Mulw ∷ Beq ∷ Bne ∷ Blt ∷ Bge ∷ Bltu ∷ Bgeu ∷ Jal ∷ Jalr ∷ Ecall ∷ []
 
+abbrev pub kindCount : ℕ
+kindCount = length kinds
+
+-- what is no other kind is Ecall
 abbrev pub kindAt : ℕ → Kind
 kindAt n = getD kinds n Ecall
 
+-- What is said of a kind: its number, its name as the Rust spells it, its format (RISC-V Unprivileged ISA manual (20191213), section 2.2 and
+-- chapter 24, "RV32/64G Instruction Set Listings"), its class, and how many lines it appends ("Lines appended" of document 01: "Address"
+-- aside, with rd and imm not 0).
+pub record Row : Type 0 where
+  pub number : ℕ
+  pub name : String
+  pub format : Format
+  pub class : Class
+  pub lines : ℕ
+
+abbrev is : ℕ → String → Format → Class → ℕ → Row
+is number name format class lines = record { number = number; name = name; format = format; class = class; lines = lines }
+
+-- ECALL is encoded as an I-format instruction, all of whose fields are fixed: none of the record's is used
+abbrev pub row : Kind → Row
+row Lui = is 0 "Lui" U Plain 2
+row Auipc = is 1 "Auipc" U Plain 2
+row Lb = is 2 "Lb" I Access 17
+row Lh = is 3 "Lh" I Access 17
+row Lw = is 4 "Lw" I Access 17
+row Ld = is 5 "Ld" I Access 10
+row Lbu = is 6 "Lbu" I Access 13
+row Lhu = is 7 "Lhu" I Access 13
+row Sb = is 8 "Sb" S Access 27
+row Sh = is 9 "Sh" S Access 27
+row Sw = is 10 "Sw" S Access 27
+row Sd = is 11 "Sd" S Access 5
+row Addi = is 12 "Addi" I Class.Addi 12
+row Sltiu = is 13 "Sltiu" I Plain 4
+row Xori = is 14 "Xori" I Plain 8
+row Ori = is 15 "Ori" I Plain 6
+row Andi = is 16 "Andi" I Plain 3
+row Slli = is 17 "Slli" I Plain 3
+row Srli = is 18 "Srli" I Plain 3
+row Srai = is 19 "Srai" I Plain 7
+row Addiw = is 20 "Addiw" I Plain 10
+row Slliw = is 21 "Slliw" I Plain 9
+row Srliw = is 22 "Srliw" I Plain 5
+row Sraiw = is 23 "Sraiw" I Plain 9
+row Add = is 24 "Add" R Plain 11
+row Sub = is 25 "Sub" R Plain 11
+row Sll = is 26 "Sll" R Plain 4
+row Sltu = is 27 "Sltu" R Plain 3
+row Srl = is 28 "Srl" R Plain 4
+row Sra = is 29 "Sra" R Plain 8
+row Or = is 30 "Or" R Plain 5
+row And = is 31 "And" R Plain 2
+row Mul = is 32 "Mul" R Plain 16
+row Div = is 33 "Div" R Plain 3
+row Divu = is 34 "Divu" R Plain 3
+row Remu = is 35 "Remu" R Plain 3
+row Addw = is 36 "Addw" R Plain 18
+row Divw = is 37 "Divw" R Plain 15
+row Subw = is 38 "Subw" R Plain 18
+row Sllw = is 39 "Sllw" R Plain 11
+row Mulw = is 40 "Mulw" R Plain 35
+row Beq = is 41 "Beq" B Branch 2
+row Bne = is 42 "Bne" B Branch 3
+row Blt = is 43 "Blt" B Branch 5
+row Bge = is 44 "Bge" B Branch 6
+row Bltu = is 45 "Bltu" B Branch 2
+row Bgeu = is 46 "Bgeu" B Branch 3
+row Jal = is 47 "Jal" J Class.Jal 2
+row Jalr = is 48 "Jalr" I Class.Jalr 2
+row Ecall = is 49 "Ecall" System Class.Ecall 1
+
 abbrev pub kindNumber : Kind → ℕ
-kindNumber Lui = 0
-kindNumber Auipc = 1
-kindNumber Lb = 2
-kindNumber Lh = 3
-kindNumber Lw = 4
-kindNumber Ld = 5
-kindNumber Lbu = 6
-kindNumber Lhu = 7
-kindNumber Sb = 8
-kindNumber Sh = 9
-kindNumber Sw = 10
-kindNumber Sd = 11
-kindNumber Addi = 12
-kindNumber Sltiu = 13
-kindNumber Xori = 14
-kindNumber Ori = 15
-kindNumber Andi = 16
-kindNumber Slli = 17
-kindNumber Srli = 18
-kindNumber Srai = 19
-kindNumber Addiw = 20
-kindNumber Slliw = 21
-kindNumber Srliw = 22
-kindNumber Sraiw = 23
-kindNumber Add = 24
-kindNumber Sub = 25
-kindNumber Sll = 26
-kindNumber Sltu = 27
-kindNumber Srl = 28
-kindNumber Sra = 29
-kindNumber Or = 30
-kindNumber And = 31
-kindNumber Mul = 32
-kindNumber Div = 33
-kindNumber Divu = 34
-kindNumber Remu = 35
-kindNumber Addw = 36
-kindNumber Divw = 37
-kindNumber Subw = 38
-kindNumber Sllw = 39
-kindNumber Mulw = 40
-kindNumber Beq = 41
-kindNumber Bne = 42
-kindNumber Blt = 43
-kindNumber Bge = 44
-kindNumber Bltu = 45
-kindNumber Bgeu = 46
-kindNumber Jal = 47
-kindNumber Jalr = 48
-kindNumber Ecall = 49
+kindNumber k = row k .number
+
+abbrev pub kindName : Kind → List ℕ
+kindName k = bytes (row k .name)
+
+-- the names, each at its kind's number
+unfoldable pub kindNames : List (List ℕ)
+kindNames = map kindName kinds
 
 abbrev pub oneOf : Kind → List Kind → Bool
 oneOf k [] = false

@@ -1,5 +1,9 @@
 pub mod Kind
 pub mod Format
+pub mod Zeros
+pub mod Class
+pub mod Name
+pub mod Coded
 pub mod Refusal
 pub mod Manual
 pub mod Memory

@@ -4,8 +4,9 @@ use mathlib.Core.Bool.{Bool, cond, _&&_, _||_, not}
 use mathlib.Core.List.{List, [], _∷_}
 use lib.Dec.{eqb, ltb}
 use Rattle.riscv.specs.declared.Instruction.{Instruction}
-use Rattle.riscv.specs.Kind.{Kind, Addi, Slli, Srli, Slliw, Srliw, Sraiw, Jal, Jalr, kindAt, oneOf}
+use Rattle.riscv.specs.Kind.{Kind, Slli, Srli, Slliw, Srliw, Sraiw, Jalr, kindCount, kindAt, oneOf}
 use Rattle.riscv.specs.Format.{format, registersOut, immediateOut, writesRd}
+use Rattle.riscv.specs.Class.{class, takesZeroRd}
 
 -- 3: "Slli, Srli not 0 to 63; Slliw, Srliw not 0 to 31; Sraiw with imm mod 64 above 31. Srai takes imm mod 64". A negative amount is a
 -- word far above 63.
@@ -19,7 +20,7 @@ zeroSrliw k imm = oneOf k (Srliw ∷ []) && eqb imm 0
 
 -- 5: "rd x0, for a kind that writes rd, other than Addi, Jal, Jalr"
 abbrev pub zeroRd : Kind → ℕ → Bool
-zeroRd k rd = eqb rd 0 && (writesRd (format k) && not (oneOf k (Addi ∷ Jal ∷ Jalr ∷ [])))
+zeroRd k rd = eqb rd 0 && (writesRd (format k) && not (takesZeroRd (class k)))
 
 -- 6: "Jalr with rs1 not x0 and imm not 0"
 abbrev pub indirectOffset : Kind → ℕ → ℕ → Bool
@@ -34,7 +35,7 @@ unfoldable pub refusal : Instruction → ℕ
 refusal i =
     let k = kindAt (i .kind) in
     first
-    ((not (ltb (i .kind) 50), 1)
+    ((not (ltb (i .kind) kindCount), 1)
     ∷ (registersOut (format k) (i .rd) (i .rs1) (i .rs2), 2)
     ∷ (immediateOut (format k) (i .imm), 2)
     ∷ (amountOut k (i .imm), 3)

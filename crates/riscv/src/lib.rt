@@ -1,10 +1,14 @@
-// RV64 instructions as they come in: the fifty kinds, the record, and the refusals 1 to 6.
+// RV64 instructions as they come in: the kinds with what is said of each, the record, and the refusals 1 to 6.
 ghost use mathlib.Core.Path.{_≡_};
-ghost use Prim.Native.Nat.{_<_};
-ghost use mathlib.Core.Bool.{_&&_, _||_, not};
-ghost use lib.Dec.{ltb, leb};
-ghost use Rattle.riscv.specs.Kind.{kindAt};
-ghost use Rattle.riscv.specs.Format.{format, lastRegister, registersOut, immediateOut, even};
+ghost use Prim.Native.Nat.{_+_, _≤_};
+ghost use mathlib.Core.Bool.{_&&_, _||_, not, cond};
+ghost use lib.Dec.{eqb, ltb, leb};
+ghost use Rattle.riscv.specs.Kind.{kindAt, kindName};
+ghost use Rattle.riscv.specs.Name.{packed};
+ghost use Rattle.riscv.specs.Coded.{coded};
+ghost use Rattle.riscv.specs.Format.{format, lastRegister, registersOut, immediateOut, even, writesRd};
+ghost use Rattle.riscv.specs.Class.{class, plainCount, countOf, lineCount, mostAppended, classNeedsFlag, isJalr, takesZeroRd, hasBad, hasDispatch};
+ghost use Rattle.riscv.specs.Zeros.{zerosOf};
 ghost use Rattle.riscv.specs.Refusal.{refusal, amountOut, zeroSrliw, zeroRd, indirectOffset};
 
 // The registers are x0 to x31.
@@ -122,6 +126,13 @@ pub struct Instruction {
     pub imm: u64,
 }
 
+// Which of an instruction's fields are zero: imm is 0, rd is x0, rs1 is x0.
+pub struct Zeros {
+    pub imm: bool,
+    pub rd: bool,
+    pub rs1: bool,
+}
+
 // The manual's instruction formats. Of Ecall no field is used.
 pub enum Format {
     R,
@@ -131,6 +142,122 @@ pub enum Format {
     U,
     J,
     System,
+}
+
+// Kinds by what they do besides their lines. Access: loads and stores. Addi, Jal, Jalr and Ecall are each a class of their own.
+pub enum Class {
+    Plain,
+    Access,
+    Addi,
+    Branch,
+    Jal,
+    Jalr,
+    Ecall,
+}
+
+// What is said of a kind: its name in one word (its bytes, the first lowest, and a 1 above them), its format, its class, and how many lines
+// it appends where rd and imm are not 0, those of an address apart.
+struct CodedRow(u64, Format, Class, usize);
+
+// The row of a kind. What is no other kind is Ecall.
+fn row_of(kind: u64) -> CodedRow
+    ensures { λ r. ⌜ r ≡ coded (kindAt kind) ⌝ }
+{
+    match kind {
+        LUI => CodedRow(0x169754c, Format::U, Class::Plain, 2),
+        AUIPC => CodedRow(0x16370697541, Format::U, Class::Plain, 2),
+        LB => CodedRow(0x1624c, Format::I, Class::Access, 17),
+        LH => CodedRow(0x1684c, Format::I, Class::Access, 17),
+        LW => CodedRow(0x1774c, Format::I, Class::Access, 17),
+        LD => CodedRow(0x1644c, Format::I, Class::Access, 10),
+        LBU => CodedRow(0x175624c, Format::I, Class::Access, 13),
+        LHU => CodedRow(0x175684c, Format::I, Class::Access, 13),
+        SB => CodedRow(0x16253, Format::S, Class::Access, 27),
+        SH => CodedRow(0x16853, Format::S, Class::Access, 27),
+        SW => CodedRow(0x17753, Format::S, Class::Access, 27),
+        SD => CodedRow(0x16453, Format::S, Class::Access, 5),
+        ADDI => CodedRow(0x169646441, Format::I, Class::Addi, 12),
+        SLTIU => CodedRow(0x17569746c53, Format::I, Class::Plain, 4),
+        XORI => CodedRow(0x169726f58, Format::I, Class::Plain, 8),
+        ORI => CodedRow(0x169724f, Format::I, Class::Plain, 6),
+        ANDI => CodedRow(0x169646e41, Format::I, Class::Plain, 3),
+        SLLI => CodedRow(0x1696c6c53, Format::I, Class::Plain, 3),
+        SRLI => CodedRow(0x1696c7253, Format::I, Class::Plain, 3),
+        SRAI => CodedRow(0x169617253, Format::I, Class::Plain, 7),
+        ADDIW => CodedRow(0x17769646441, Format::I, Class::Plain, 10),
+        SLLIW => CodedRow(0x177696c6c53, Format::I, Class::Plain, 9),
+        SRLIW => CodedRow(0x177696c7253, Format::I, Class::Plain, 5),
+        SRAIW => CodedRow(0x17769617253, Format::I, Class::Plain, 9),
+        ADD => CodedRow(0x1646441, Format::R, Class::Plain, 11),
+        SUB => CodedRow(0x1627553, Format::R, Class::Plain, 11),
+        SLL => CodedRow(0x16c6c53, Format::R, Class::Plain, 4),
+        SLTU => CodedRow(0x175746c53, Format::R, Class::Plain, 3),
+        SRL => CodedRow(0x16c7253, Format::R, Class::Plain, 4),
+        SRA => CodedRow(0x1617253, Format::R, Class::Plain, 8),
+        OR => CodedRow(0x1724f, Format::R, Class::Plain, 5),
+        AND => CodedRow(0x1646e41, Format::R, Class::Plain, 2),
+        MUL => CodedRow(0x16c754d, Format::R, Class::Plain, 16),
+        DIV => CodedRow(0x1766944, Format::R, Class::Plain, 3),
+        DIVU => CodedRow(0x175766944, Format::R, Class::Plain, 3),
+        REMU => CodedRow(0x1756d6552, Format::R, Class::Plain, 3),
+        ADDW => CodedRow(0x177646441, Format::R, Class::Plain, 18),
+        DIVW => CodedRow(0x177766944, Format::R, Class::Plain, 15),
+        SUBW => CodedRow(0x177627553, Format::R, Class::Plain, 18),
+        SLLW => CodedRow(0x1776c6c53, Format::R, Class::Plain, 11),
+        MULW => CodedRow(0x1776c754d, Format::R, Class::Plain, 35),
+        BEQ => CodedRow(0x1716542, Format::B, Class::Branch, 2),
+        BNE => CodedRow(0x1656e42, Format::B, Class::Branch, 3),
+        BLT => CodedRow(0x1746c42, Format::B, Class::Branch, 5),
+        BGE => CodedRow(0x1656742, Format::B, Class::Branch, 6),
+        BLTU => CodedRow(0x175746c42, Format::B, Class::Branch, 2),
+        BGEU => CodedRow(0x175656742, Format::B, Class::Branch, 3),
+        JAL => CodedRow(0x16c614a, Format::J, Class::Jal, 2),
+        JALR => CodedRow(0x1726c614a, Format::I, Class::Jalr, 2),
+        ECALL => CodedRow(0x16c6c616345, Format::System, Class::Ecall, 1),
+        _ => CodedRow(0x16c6c616345, Format::System, Class::Ecall, 1),
+    }
+}
+
+// The most bytes of a name that one word holds with a 1 above them.
+pub const MOST_LETTERS: usize = 7;
+
+// The name of a kind in one word.
+pub fn name_of(kind: u64) -> u64
+    ensures { λ r. ⌜ r ≡ packed (kindName (kindAt kind)) ⌝ }
+{
+    let row = row_of(kind);
+    row.0
+}
+
+fn format_of(kind: u64) -> Format
+    ensures { λ r. ⌜ r ≡ format (kindAt kind) ⌝ }
+{
+    let row = row_of(kind);
+    row.1
+}
+
+pub fn class_of(kind: u64) -> Class
+    ensures { λ r. ⌜ r ≡ class (kindAt kind) ⌝ }
+{
+    let row = row_of(kind);
+    row.2
+}
+
+fn plain_count(kind: u64) -> usize
+    ensures { λ r. ⌜ r ≡ plainCount (kindAt kind) ⌝ }
+{
+    let row = row_of(kind);
+    row.3
+}
+
+pub fn zeros_of(i: Instruction) -> Zeros
+    ensures { λ r. ⌜ r ≡ zerosOf i ⌝ }
+{
+    Zeros {
+        imm: i.imm == 0,
+        rd: i.rd == 0,
+        rs1: i.rs1 == 0,
+    }
 }
 
 // The first of the refusals 1 to 6 that applies, or 0.
@@ -154,31 +281,14 @@ pub fn check(i: Instruction) -> u64
     if zero_srliw(kind, i.imm) {
         return 4;
     }
-    if zero_rd(kind, i.rd) {
+    let class = class_of(kind);
+    if zero_rd(format, class, i.rd) {
         return 5;
     }
     if indirect_offset(kind, i.rs1, i.imm) {
         return 6;
     }
     0
-}
-
-// The format of a kind; Ecall has none.
-fn format_of(kind: u64) -> Format
-    requires { ⌜ kind < 50 ⌝ }
-    ensures { λ r. ⌜ r ≡ format (kindAt kind) ⌝ }
-{
-    match kind {
-        LUI..=AUIPC => Format::U,
-        LB..=LHU => Format::I,
-        SB..=SD => Format::S,
-        ADDI..=SRAIW => Format::I,
-        ADD..=MULW => Format::R,
-        BEQ..=BGEU => Format::B,
-        JAL => Format::J,
-        JALR => Format::I,
-        _ => Format::System,
-    }
 }
 
 // 2: a register field that the format uses is above 31.
@@ -238,7 +348,6 @@ fn odd_or_outside(imm: u64, low: u64, high: u64) -> bool
 
 // 3: the amount of a shift by an immediate.
 fn amount_out(kind: u64, imm: u64) -> bool
-    requires { ⌜ kind < 50 ⌝ }
     ensures { λ r. ⌜ r ≡ amountOut (kindAt kind) imm ⌝ }
 {
     match kind {
@@ -253,31 +362,144 @@ fn amount_out(kind: u64, imm: u64) -> bool
 
 // 4: Srliw by 0.
 fn zero_srliw(kind: u64, imm: u64) -> bool
-    requires { ⌜ kind < 50 ⌝ }
     ensures { λ r. ⌜ r ≡ zeroSrliw (kindAt kind) imm ⌝ }
 {
     (kind == SRLIW) & (imm == 0)
 }
 
 // 5: rd is x0, of a kind that writes rd, other than Addi, Jal and Jalr.
-fn zero_rd(kind: u64, rd: u64) -> bool
-    requires { ⌜ kind < 50 ⌝ }
-    ensures { λ r. ⌜ r ≡ zeroRd (kindAt kind) rd ⌝ }
+fn zero_rd(format: Format, class: Class, rd: u64) -> bool
+    ensures { λ r. ⌜ r ≡ (eqb rd 0 && (writesRd format && not (takesZeroRd class))) ⌝ }
 {
-    if rd != 0 {
-        return false;
+    (rd == 0) & (writes_rd(format) & !takes_zero_rd(class))
+}
+
+// Whether a format has a destination register.
+fn writes_rd(format: Format) -> bool
+    ensures { λ r. ⌜ r ≡ writesRd format ⌝ }
+{
+    match format {
+        Format::R => true,
+        Format::I => true,
+        Format::S => false,
+        Format::B => false,
+        Format::U => true,
+        Format::J => true,
+        Format::System => false,
     }
-    match kind {
-        LUI..=LHU => true,
-        SLTIU..=MULW => true,
-        _ => false,
+}
+
+// Whether the destination of a kind of a class may be x0: Addi, Jal and Jalr.
+fn takes_zero_rd(class: Class) -> bool
+    ensures { λ r. ⌜ r ≡ takesZeroRd class ⌝ }
+{
+    match class {
+        Class::Plain => false,
+        Class::Access => false,
+        Class::Addi => true,
+        Class::Branch => false,
+        Class::Jal => true,
+        Class::Jalr => true,
+        Class::Ecall => false,
     }
 }
 
 // 6: Jalr under a register with an offset.
 fn indirect_offset(kind: u64, rs1: u64, imm: u64) -> bool
-    requires { ⌜ kind < 50 ⌝ }
     ensures { λ r. ⌜ r ≡ indirectOffset (kindAt kind) rs1 imm ⌝ }
 {
     (kind == JALR) & ((rs1 != 0) & (imm != 0))
+}
+
+// How many lines a kind appends.
+pub fn line_count(kind: u64, z: Zeros) -> usize
+    ensures counted { λ r. ⌜ r ≡ lineCount (kindAt kind) z ⌝ }
+    ensures most { λ r. ⌜ r ≤ mostAppended ⌝ }
+{
+    let class = class_of(kind);
+    let n = plain_count(kind);
+    count_of(class, n, z)
+}
+
+// Each class counts in its own way. `n` is what the kind's row has.
+fn count_of(class: Class, n: usize, z: Zeros) -> usize
+    requires { ⌜ n ≤ mostAppended ⌝ }
+    ensures { λ r. ⌜ r ≡ countOf class n z ⌝ }
+{
+    match class {
+        Class::Plain => n,
+        Class::Access => { if z.imm { n } else { n + 2 } }
+        Class::Addi => {
+            if z.rd {
+                0
+            } else if z.imm {
+                11
+            } else {
+                n
+            }
+        }
+        Class::Branch => n,
+        Class::Jal => { if z.rd { 0 } else { n } }
+        Class::Jalr => jalr_count(n, z),
+        Class::Ecall => n,
+    }
+}
+
+fn jalr_count(n: usize, z: Zeros) -> usize
+    requires { ⌜ n ≤ mostAppended ⌝ }
+    ensures { λ r. ⌜ r ≡ cond (z .rd) 0 n + cond (z .rs1) 1 0 ⌝ }
+{
+    if z.rd {
+        if z.rs1 {
+            return 1;
+        }
+        return 0;
+    }
+    if z.rs1 {
+        return n + 1;
+    }
+    n
+}
+
+// Whether a kind of a class needs a flag.
+pub fn needs_flag(class: Class, z: Zeros) -> bool
+    ensures { λ r. ⌜ r ≡ classNeedsFlag class z ⌝ }
+{
+    match class {
+        Class::Plain => true,
+        Class::Access => true,
+        Class::Addi => !z.rd,
+        Class::Branch => false,
+        Class::Jal => !z.rd,
+        Class::Jalr => { if z.rd { z.rs1 } else { true } }
+        Class::Ecall => true,
+    }
+}
+
+// Whether a kind of a class has a bad line: Jalr under x0.
+pub fn has_bad(class: Class, z: Zeros) -> bool
+    ensures { λ r. ⌜ r ≡ hasBad class z ⌝ }
+{
+    is_jalr(class) & z.rs1
+}
+
+// Whether a kind of a class has a dispatch: Jalr under another register.
+pub fn has_dispatch(class: Class, z: Zeros) -> bool
+    ensures { λ r. ⌜ r ≡ hasDispatch class z ⌝ }
+{
+    is_jalr(class) & !z.rs1
+}
+
+fn is_jalr(class: Class) -> bool
+    ensures { λ r. ⌜ r ≡ isJalr class ⌝ }
+{
+    match class {
+        Class::Plain => false,
+        Class::Access => false,
+        Class::Addi => false,
+        Class::Branch => false,
+        Class::Jal => false,
+        Class::Jalr => true,
+        Class::Ecall => false,
+    }
 }

@@ -12,10 +12,11 @@ use Rattle.btor2.specs.declared.NodeType.{NodeType}
 use Rattle.btor2.specs.declared.NodeType.the-variants.{Bit, Word, Memory}
 use Rattle.btor2.specs.Sort.{sortNumber}
 use Rattle.btor2.proofs.Sort.{same-sort}
+use Rattle.roles.specs.Roles.{zeroWord, memoryNode, maximumNode, memoryFlow, maximumFlow, additionFlow, roleCount}
 use Rattle.roles_check.specs.RolesFit.{roleSorts, roleSort}
 
 abbrev pub sortBy : ℕ → NodeType
-sortBy i = cond (ltb i 2) Bit (cond (ltb i 4) Word (cond (ltb i 6) Memory (cond (ltb i 70) Word (cond (ltb i 72) Memory (cond (ltb i 76) Word Bit)))))
+sortBy i = cond (ltb i zeroWord) Bit (cond (ltb i memoryNode) Word (cond (ltb i maximumNode) Memory (cond (ltb i memoryFlow) Word (cond (ltb i maximumFlow) Memory (cond (ltb i additionFlow) Word Bit)))))
 
 same : ℕ → Bool
 same i = eqb (sortNumber (roleSort i)) (sortNumber (sortBy i))
@@ -23,10 +24,10 @@ same i = eqb (sortNumber (roleSort i)) (sortNumber (sortBy i))
 pub number-by : (i : ℕ) → sortNumber (roleSort i) ≡ sortNumber (sortBy i)
 unfolding same
 number-by i =
-    by-le 79 i
+    by-le roleCount i
     (λ l. ap sortNumber (List·getD-eq-default roleSorts Bit {n = i} l)
-    ∙ rw (le-ltb i 2 (omega arith), le-ltb i 4 (omega arith), le-ltb i 6 (omega arith), le-ltb i 70 (omega arith), le-ltb i 72 (omega arith), le-ltb i 76 (omega arith)))
-    (λ l. eqb→eq _ _ (at 79 same tt i l))
+    ∙ rw (le-ltb i zeroWord (omega arith), le-ltb i memoryNode (omega arith), le-ltb i maximumNode (omega arith), le-ltb i memoryFlow (omega arith), le-ltb i maximumFlow (omega arith), le-ltb i additionFlow (omega arith)))
+    (λ l. eqb→eq _ _ (at roleCount same tt i l))
 
 pub sort-by : (i : ℕ) → roleSort i ≡ sortBy i
 sort-by i = same-sort (roleSort i) (sortBy i) (rw (eq-eqb _ _ (number-by i)) tt)

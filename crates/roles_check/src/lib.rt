@@ -1,14 +1,12 @@
 // The check of the roles (refusal 13): each is a value line of its sort.
 use btor2::NodeRef;
 use btor2::get_sort;
-use btor2_list::AT_HEAD;
-use btor2_list::BYTE;
 use btor2_list::CONST;
+use btor2_list::Found;
 use btor2_list::ITE;
 use btor2_list::Looked;
-use btor2_list::SORT_UNIT;
 use btor2_list::STATE;
-use btor2_list::STRIDE;
+use btor2_list::get;
 use btor2_list::look;
 use roles::ADDITION_FLOW;
 use roles::MAXIMUM;
@@ -20,10 +18,10 @@ use roles::ZERO_WORD;
 ghost use mathlib.Core.Path.{_≡_};
 ghost use mathlib.Core.Bool.{not, true};
 ghost use lib.Dec.{eqb};
-ghost use Prim.Native.Nat.{ℕ, _/_, _≤_};
-ghost use lib.ListN.{length};
+ghost use Prim.Native.Nat.{ℕ, _≤_};
 ghost use Rattle.btor2.specs.Sort.{sortNumber};
 ghost use Rattle.btor2_list.specs.declared.Line.{Line};
+ghost use Rattle.btor2_list.specs.Record.{holds, recordAt};
 ghost use Rattle.btor2_list.specs.Node.{nodeOf};
 ghost use Rattle.btor2_list.specs.Look.{lookAt, seen};
 ghost use Rattle.roles_check.specs.RolesFit.{valueSort, roleSort, rolesFit};
@@ -40,14 +38,13 @@ pub fn value_sort(list: &[u64], lines: usize, place: NodeRef) -> u64
 }
 
 // 13: a role is outside the list, not a value line, or of the wrong sort.
-pub fn roles_out(list: &[u64], lines: usize, roles: [NodeRef; 79]) -> bool
+pub fn roles_out(list: &[u64], lines: usize, roles: [NodeRef; ROLES]) -> bool
     ensures { λ r. ⌜ r ≡ not (rolesFit (now (list .entry)) lines 0 roles) ⌝ }
 {
-    let held = list.len() / STRIDE;
     for role in 0..ROLES {
         let place = roles[role];
         let sort = role_sort(role);
-        if role_out(list, lines, held, place, sort) {
+        if role_out(list, lines, place, sort) {
             return true;
         }
     }
@@ -83,23 +80,27 @@ fn role_sort(role: usize) -> u64
 
 // Whether the value at a place is not of the sort of this number. Most roles are constants, states and ites, whose record says its own sort:
 // these are told without a lookup.
-fn role_out(list: &[u64], lines: usize, held: usize, place: NodeRef, sort: u64) -> bool
-    requires { ⌜ (held ≡ length (now list) / 4) × ((sort ≡ 0 → ⊥) × (sort ≤ 3)) ⌝ }
+fn role_out(list: &[u64], lines: usize, place: NodeRef, sort: u64) -> bool
+    requires { ⌜ (sort ≡ 0 → ⊥) × (sort ≤ 3) ⌝ }
     ensures { λ r. ⌜ r ≡ not (eqb (valueSort (lookAt (now (list .entry)) lines (place .0))) sort) ⌝ }
 {
-    let p = place.0;
-    if p < lines {
-        if p < held {
-            let at = p * STRIDE;
-            let head = list[at + AT_HEAD];
-            if head / SORT_UNIT % BYTE == sort {
-                if says_own_sort(head % BYTE) {
-                    return false;
-                }
-            }
+    if place.0 < lines {
+        if says_sort(list, place, sort) {
+            return false;
         }
     }
     value_sort(list, lines, place) != sort
+}
+
+// Whether the record at a place says that its value has the sort of this number.
+fn says_sort(list: &[u64], place: NodeRef, sort: u64) -> bool
+    requires { ⌜ (sort ≡ 0 → ⊥) × (sort ≤ 3) ⌝ }
+    ensures { λ r. ⌜ (r ≡ true → (holds (now (list .entry)) (place .0) ≡ true) × (sort ≡ valueSort (seen (nodeOf (recordAt (now (list .entry)) (place .0)))))) ⌝ }
+{
+    match get(list, place) {
+        Found::Line(line) => line.sort == sort && says_own_sort(line.kind),
+        Found::Outside => false,
+    }
 }
 
 // Whether a record of this kind has the sort that it says, where that is a Bit, a Word or a Memory.

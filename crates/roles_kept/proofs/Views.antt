@@ -1,5 +1,5 @@
 -- The operators of the lent words: how many, and what a lookup says of one. Assumes nothing.
-use Prim.Native.Nat.{ℕ, _+_, _*_, _≤_, _<_}
+use Prim.Native.Nat.{ℕ, _+_, _≤_, _<_}
 use native.Mathlib.Omega.{arith}
 use mathlib.Core.Path.{_≡_, refl, sym, _∙_, ap, subst}
 use mathlib.Core.List.{List, [], _∷_, _++_, map}
@@ -14,7 +14,7 @@ use Rattle.btor2.specs.Sort.{sortNumber}
 use Rattle.btor2.specs.Op.{Op, unknown, carried, identifiers}
 use Rattle.btor2.specs.SortRule.{hasSort}
 use Rattle.btor2.proofs.LineIs.{lineIs}
-use Rattle.btor2_list.specs.Record.{stride}
+use Rattle.btor2_list.specs.Record.{wordsFor}
 use Rattle.btor2_list.specs.Node.{Node, node}
 use Rattle.btor2_list.specs.View.{view}
 use Rattle.btor2_list.specs.Look.{seenAs, lookAt}
@@ -57,7 +57,7 @@ seen-is : (nid : ℕ) (m : MaybeSort) (s : NodeType) → valueSort (seenAs nid m
 seen-is nid (Sort t) s e = subst (λ (k : ℕ). T (eqb (sortNumber s) k)) (sym e) (eqb-refl (sortNumber s))
 seen-is nid NoSort s e = absurd (omega (arith, positive s))
 
-pub look-is : (ws : List ℕ) (n : ℕ) → n * stride ≤ length ws → (p : ℕ) (s : NodeType) → valueSort (lookAt ws n p) ≡ sortNumber s → T (lineIs s (operators ws n) p)
+pub look-is : (ws : List ℕ) (n : ℕ) → wordsFor n ≤ length ws → (p : ℕ) (s : NodeType) → valueSort (lookAt ws n p) ≡ sortNumber s → T (lineIs s (operators ws n) p)
 unfolding lineIs operators
 look-is ws n room p s e =
     by-le n p
@@ -71,7 +71,7 @@ is-seen : (nid : ℕ) (m : MaybeSort) (s : NodeType) → T (hasSort s m) → val
 is-seen nid (Sort t) s h = sym (eqb→eq (sortNumber s) (sortNumber t) h)
 is-seen nid NoSort s h = absurd h
 
-pub is-look : (ws : List ℕ) (n : ℕ) → n * stride ≤ length ws → (p : ℕ) (s : NodeType) → T (lineIs s (operators ws n) p) → valueSort (lookAt ws n p) ≡ sortNumber s
+pub is-look : (ws : List ℕ) (n : ℕ) → wordsFor n ≤ length ws → (p : ℕ) (s : NodeType) → T (lineIs s (operators ws n) p) → valueSort (lookAt ws n p) ≡ sortNumber s
 unfolding lineIs operators
 is-look ws n room p s h =
     ap valueSort (look-line ws n room p (node 0 unknown) (rw (operators-length ws n) at (inside s (operators ws n) p h)))

@@ -1,5 +1,5 @@
 -- What a lookup, or a record that was found, says of a mark. Assumes nothing.
-use Prim.Native.Nat.{ℕ, _*_}
+use Prim.Native.Nat.{ℕ}
 use mathlib.Core.Path.{_≡_, refl}
 use mathlib.Core.Bool.{Bool, true, false, cond, _&&_}
 use mathlib.Core.List.{List}
@@ -10,7 +10,7 @@ use Rattle.btor2.specs.Op.{carried}
 use Rattle.btor2.specs.SortRule.{markOf, noLine}
 use Rattle.btor2_list.specs.declared.Looked.{Looked}
 use Rattle.btor2_list.specs.declared.Looked.the-variants.{Outside, NoValue, Value}
-use Rattle.btor2_list.specs.Record.{stride, holds, lineAt}
+use Rattle.btor2_list.specs.Record.{holds, recordAt}
 use Rattle.btor2_list.specs.Node.{opOf}
 use Rattle.btor2_list.specs.Look.{seenAs, lookAt}
 use Rattle.sort_check.specs.Marks.{markAt}
@@ -27,7 +27,7 @@ seen-sort nid NoSort = refl
 pub mark-sort : (ws : List ℕ) (i q : ℕ) → sortSeen (lookAt ws i q) ≡ markAt ws i q .sort
 mark-sort ws i q = go (ltb q i && holds ws q)
   where
-    go : (t : Bool) → sortSeen (cond t (seenAs (lineAt ws (q * stride) .nid .0) (carried (opOf (lineAt ws (q * stride))))) Outside)
-        ≡ cond t (markOf (opOf (lineAt ws (q * stride)))) (noLine .mark) .sort
-    go true = seen-sort (lineAt ws (q * stride) .nid .0) (carried (opOf (lineAt ws (q * stride))))
+    go : (t : Bool) → sortSeen (cond t (seenAs (recordAt ws q .nid .0) (carried (opOf (recordAt ws q)))) Outside)
+        ≡ cond t (markOf (opOf (recordAt ws q))) (noLine .mark) .sort
+    go true = seen-sort (recordAt ws q .nid .0) (carried (opOf (recordAt ws q)))
     go false = refl

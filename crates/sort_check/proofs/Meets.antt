@@ -1,5 +1,5 @@
 -- The sort rule over the lines of the words is that of each record, its operands' marks being those of earlier records. Assumes nothing.
-use Prim.Native.Nat.{ℕ, zero, suc, _/_, _≤_, _<_}
+use Prim.Native.Nat.{ℕ, zero, suc, _≤_, _<_}
 use mathlib.Core.Path.{_≡_, refl, sym, _∙_, ap, fun-ext}
 use mathlib.Core.Bool.{Bool, true, false, _&&_, _||_, and-true, and-assoc}
 use mathlib.Core.Bool as B
@@ -14,7 +14,7 @@ use Rattle.btor2.specs.SortRule.{Mark, markOf, isStateOp, rule, Judged, judge, 
 use Rattle.btor2.proofs.Op.{mapOp-mapOp}
 use Rattle.btor2.proofs.Walk.{walk-append}
 use Rattle.btor2.proofs.SortRule.{mark-at}
-use Rattle.btor2_list.specs.Record.{stride}
+use Rattle.btor2_list.specs.Record.{capacity}
 use Rattle.btor2_list.specs.Node.{Node}
 use Rattle.btor2_list.specs.View.{view}
 use Rattle.list_check.specs.Lines.{ops, opAt, some}
@@ -66,14 +66,14 @@ abbrev pub recordBroken : List ℕ → ℕ → Bool
 recordBroken ws p = B.not (rule (mapOp (markAt ws p) (said ws p)))
 
 -- the marks that a line sees are those of the earlier records
-marks : (ws : List ℕ) (p : ℕ) → p ≤ length ws / stride → (q : ℕ) → markOf (opAt (ops (view ws p)) q) ≡ markAt ws p q
+marks : (ws : List ℕ) (p : ℕ) → p ≤ capacity (length ws) → (q : ℕ) → markOf (opAt (ops (view ws p)) q) ≡ markAt ws p q
 unfolding carried isStateOp
 marks ws p room q =
     by-le p q
     (λ l. let past : length (ops (view ws p)) ≤ q = rw (ops-length ws p) l in rw (le-ltb q p l, List·getD-eq-default (ops (view ws p)) unknown past))
-    (λ l. let there : q < length ws / stride = omega arith in rw (lt-ltb q p l, lt-ltb q (length ws / stride) there, op-at ws p q l))
+    (λ l. let there : q < capacity (length ws) = omega arith in rw (lt-ltb q p l, lt-ltb q (capacity (length ws)) there, op-at ws p q l))
 
-pub by-records : (ws : List ℕ) (n : ℕ) → n ≤ length ws / stride → B.not (meetsSortRule (ops (view ws n))) ≡ some n (recordBroken ws)
+pub by-records : (ws : List ℕ) (n : ℕ) → n ≤ capacity (length ws) → B.not (meetsSortRule (ops (view ws n))) ≡ some n (recordBroken ws)
 by-records ws n room =
     ap B.not (by-lines ws n)
     ∙ B.Bool·not-not _

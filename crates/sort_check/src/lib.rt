@@ -6,7 +6,7 @@ use btor2::get_sort;
 use btor2_list::Found;
 use btor2_list::Line;
 use btor2_list::Looked;
-use btor2_list::STRIDE;
+use btor2_list::capacity;
 use btor2_list::get;
 use btor2_list::look;
 use line_operator::Operator;
@@ -14,12 +14,11 @@ use line_operator::operator_of;
 ghost use mathlib.Core.Path.{_≡_};
 ghost use mathlib.Core.Bool.{cond, true, _&&_};
 ghost use mathlib.Core.Bool as B;
-ghost use Prim.Native.Nat.{_*_};
 ghost use Rattle.btor2.specs.Op as O;
 ghost use Rattle.btor2.specs.Op.{mapOp};
 ghost use Rattle.btor2.specs.Sort.{sameSort};
 ghost use Rattle.btor2.specs.SortRule.{hasSort, is, bitOrWord, rule, isStateOp};
-ghost use Rattle.btor2_list.specs.Record.{stride, holds, lineAt};
+ghost use Rattle.btor2_list.specs.Record.{holds, recordAt};
 ghost use Rattle.btor2_list.specs.Node.{opOf, noName};
 ghost use Rattle.line_operator.specs.Operator.{opFrom};
 ghost use Rattle.sort_check.specs.Broken.{sortBrokenWords};
@@ -29,7 +28,7 @@ ghost use Rattle.sort_check.specs.Marks.{markAt};
 pub fn sort_broken(list: &[u64], lines: usize) -> bool
     ensures { λ r. ⌜ r ≡ sortBrokenWords (now (list .entry)) lines ⌝ }
 {
-    if list.len() / STRIDE < lines {
+    if capacity(list.len()) < lines {
         return true;
     }
     let mut i = 0;
@@ -43,7 +42,7 @@ pub fn sort_broken(list: &[u64], lines: usize) -> bool
 }
 
 fn line_breaks(list: &[u64], i: usize) -> bool
-    ensures { λ r. ⌜ r ≡ cond (holds (now (list .entry)) i) (B.not (rule (mapOp (markAt (now (list .entry)) i) (opOf (lineAt (now (list .entry)) (i * stride)))))) true ⌝ }
+    ensures { λ r. ⌜ r ≡ cond (holds (now (list .entry)) i) (B.not (rule (mapOp (markAt (now (list .entry)) i) (opOf (recordAt (now (list .entry)) i))))) true ⌝ }
 {
     match get(list, NodeRef(i)) {
         Found::Line(line) => !meets_rule(list, i, operator_of(line)),

@@ -5,7 +5,7 @@ use Rattle.bitvec.specs.Smtlib.{bit, negative, bvnot, bvneg, bvadd, bvsub, bvmu
 use Rattle.btor2.specs.Op.{mapOp, carried}
 use Rattle.btor2.specs.Walk.{walk}
 use Rattle.btor2.specs.Value.{binary, evalOp, values, value}
-use Rattle.btor2_list.specs.Record.{lineAt}
+use Rattle.btor2_list.specs.Record.{recordAt}
 use Rattle.btor2_list.specs.Node.{opOf}
 use Rattle.btor2_list.specs.View.{view}
 use Rattle.program.specs.Prog.{_>>=_}
@@ -20,7 +20,7 @@ use Rattle.roles_check.specs.RolesFit.{rolesFit}
 use Rattle.text.specs.Numeral.{numeral}
 use Rattle.text.specs.BadName.{badName}
 use Rattle.lowering_refusals.specs.Refusal.{roomOf, needsOf, roomOut, flagOut, refusalGiven}
-use Rattle.lowering_lines.specs.Lines.{programFrom}
+use Rattle.lowering_lines.specs.Lines.{programWith}
 use Rattle.lowering.specs.Lowering.{programOf, countsAfter, settled, loweringGiven}
 use Rattle.listing_start.specs.Start.{startNames, concat, startName, namedStates, startOps, records, startWords, startIn, fromOn, startRoles, startState}
 use Rattle.listing_bytes.specs.Storage.{startLent}
@@ -29,5 +29,5 @@ use Rattle.listing_bytes.specs.Storage.{startLent}
 use Rattle.starred.specs.Cases.{cases, Starred}
 
 pub starred : Starred
-unfolding cases answerToCase states startLent startNames concat startName namedStates startOps records startWords startIn fromOn startRoles startState loweringGiven refusalGiven roomOf needsOf rolesFit lineAt opOf carried refusal flagOut roomOut settled programOf programFrom countsAfter appendLine constantOf upper operandsFor flowsIn withFlows translate regFlowIte unimplemented _>>=_ newNeq newUgte newSra newShiftRight checkAdditionOverflow modelAddress wordAddress bitOffset modelL modelLoad constant link withConstant addiResult sumWithConstant modelAddi shiftedBack divided modelBranch numeral badName view walk mapOp evalOp binary values value Smt.ite bit negative bvnot bvneg bvadd bvsub bvmul bvudiv bvsdiv bvand bvshl bvlshr bvult bvcomp zeroExtend
+unfolding cases answerToCase states startLent startNames concat startName namedStates startOps records startWords startIn fromOn startRoles startState loweringGiven refusalGiven roomOf needsOf rolesFit recordAt opOf carried refusal flagOut roomOut settled programOf programWith countsAfter appendLine constantOf upper operandsFor flowsIn withFlows translate regFlowIte unimplemented _>>=_ newNeq newUgte newSra newShiftRight checkAdditionOverflow modelAddress wordAddress bitOffset modelL modelLoad constant link withConstant addiResult sumWithConstant modelAddi shiftedBack divided modelBranch numeral badName view walk mapOp evalOp binary values value Smt.ite bit negative bvnot bvneg bvadd bvsub bvmul bvudiv bvsdiv bvand bvshl bvlshr bvult bvcomp zeroExtend
 starred = refl

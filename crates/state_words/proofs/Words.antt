@@ -6,7 +6,9 @@ use mathlib.Core.List.{List, [], _∷_, _++_, map, append-nil}
 use lib.ListN.{length, getD, set, drop, length-append, length-map, length-drop}
 use lib.Seq.{getD-drop, drop-set-add, drop-at}
 use Rattle.btor2.specs.declared.NodeRef.{NodeRef}
+use Rattle.builder.specs.declared.Tally.{Tally}
 use Rattle.roles.specs.Roles.{ref, role, roleCount}
+use Rattle.lowering_refusals.specs.declared.Counts.{Counts}
 use Rattle.lowering_refusals.specs.declared.State.{State}
 use Rattle.state_words.specs.Words.{firstRole, stateWords, placesIn, rolesIn, stateIn, place, stateOut, withState}
 
@@ -51,6 +53,10 @@ pub role-at : (ws : List ℕ) (j : ℕ) → j < roleCount → role (rolesIn ws) 
 unfolding rolesIn
 role-at ws j h = places-at roleCount (drop firstRole ws) j h ∙ ap ref (getD-drop firstRole ws j 0)
 
+-- of a role that was found to be j
+pub role-by : (ws : List ℕ) (k j : ℕ) → k ≡ j → k < roleCount → role (rolesIn ws) j ≡ ref (getD ws (firstRole + k) 0)
+role-by ws k j e h = ap (role (rolesIn ws)) (sym e) ∙ role-at ws k h
+
 pub size-in : (ws : List ℕ) → length (rolesIn ws) ≡ roleCount
 unfolding rolesIn
 size-in ws = places-size roleCount (drop firstRole ws)
@@ -65,6 +71,10 @@ pub roles-kept : (ws : List ℕ) → roleCount ≤ length ws → map place (plac
 roles-kept ws h = places-kept roleCount ws h
 
 -- ---- the state
+
+-- the words before the roles
+abbrev pub six : Tally → Counts → List ℕ
+six t c = t .lines ∷ t .nid ∷ c .names ∷ c .edges ∷ c .dispatches ∷ c .bads ∷ []
 
 -- of words with six before the roles, a statement about those six and the rest
 pub by-six : (Q : List ℕ → Type 0) (ws : List ℕ) → stateWords ≤ length ws → ((a b c d e f : ℕ) (rest : List ℕ) → roleCount ≤ length rest → Q (a ∷ b ∷ c ∷ d ∷ e ∷ f ∷ rest)) → Q ws
@@ -82,6 +92,11 @@ unfolding stateIn rolesIn stateOut
 read-out s h =
     ap (λ (roles : List NodeRef). record { tally = s .tally; counts = s .counts; roles = roles })
     (ap (placesIn roleCount) (sym (append-nil (map place (s .roles)))) ∙ places-back (s .roles) [] roleCount h)
+
+-- the roles of words that a state was put into
+pub roles-in : (ws : List ℕ) (s : State) → length (s .roles) ≡ roleCount → rolesIn (withState ws s) ≡ s .roles
+unfolding rolesIn stateOut withState
+roles-in ws s h = places-back (s .roles) (drop stateWords ws) roleCount h
 
 -- words that hold the state that they held are the same
 pub state-kept : (ws : List ℕ) → stateWords ≤ length ws → withState ws (stateIn ws) ≡ ws

@@ -8,22 +8,34 @@ use models::Operands;
 use models::Outcome;
 use riscv::Instruction;
 use riscv::LAST_REGISTER;
+use roles::ROLES;
 use roles::Reads;
 ghost use mathlib.Core.Path.{_≡_};
 ghost use mathlib.Core.List.{[]};
-ghost use Prim.Native.Nat.{_+_, _≤_};
+ghost use Prim.Native.Nat.{_≤_, _<_};
 ghost use lib.ListN.{length, getD};
-ghost use lib.Seq.{sets};
 ghost use Rattle.riscv.specs.declared.Instruction.{Instruction};
 ghost use Rattle.models.specs.Code.{flowsOf, outcomeOf};
-ghost use Rattle.roles.specs.Roles.{roleCount, nodeRole, flowRole, operandsFor, flowsIn, readsIn, withFlows, withOutcome};
+ghost use Rattle.roles.specs.Roles.{roleCount, nodeRole, flowRole, operandsFor, flowsIn, readsIn, withFlows, withRegisterFlow, withOutcome};
 ghost use Rattle.state_words.specs.Words.{stateWords, rolesIn, stateOf, stateIn, stateOut, withState, rolesHeld, countsStored, stored};
-ghost use Rattle.state_words.specs.Put.{countWords, putFlows, putRegister, putOutcome};
+ghost use Rattle.state_words.specs.Put.{withRoles};
 
-// The words of a state: lines, next identifier, counts of names, edges, dispatches and bads, and from FIRST_ROLE on the roles.
-pub const STATE_WORDS: usize = 85;
+// Where each stands: lines, next identifier, counts of names, edges, dispatches and bads, and from FIRST_ROLE on the roles.
+const LINES_WORD: usize = 0;
+
+const NID_WORD: usize = 1;
+
+const NAMES_WORD: usize = 2;
+
+const EDGES_WORD: usize = 3;
+
+const DISPATCHES_WORD: usize = 4;
+
+const BADS_WORD: usize = 5;
 
 const FIRST_ROLE: usize = 6;
+
+pub const STATE_WORDS: usize = FIRST_ROLE + ROLES;
 
 // The state in words; 0 for a word that is missing.
 pub fn state_in(words: &[u64]) -> State
@@ -40,19 +52,19 @@ pub fn state_in(words: &[u64]) -> State
 }
 
 // The words of a state of these parts, and how many roles their type gives.
-pub fn words_of(t: Tally, c: Counts, places: [NodeRef; 79]) -> [u64; 85]
+pub fn words_of(t: Tally, c: Counts, places: [NodeRef; ROLES]) -> [u64; STATE_WORDS]
     ensures words { λ r. ⌜ r ≡ stateOut (stateOf t c places) ⌝ }
     ensures roles { λ r. ⌜ length places ≡ roleCount ⌝ }
 {
-    let mut words = [0u64; 85];
-    words[0] = t.lines as u64;
-    words[1] = t.nid;
-    words[2] = c.names as u64;
-    words[3] = c.edges as u64;
-    words[4] = c.dispatches as u64;
-    words[5] = c.bads as u64;
+    let mut words = [0u64; STATE_WORDS];
+    words[LINES_WORD] = t.lines as u64;
+    words[NID_WORD] = t.nid;
+    words[NAMES_WORD] = c.names as u64;
+    words[EDGES_WORD] = c.edges as u64;
+    words[DISPATCHES_WORD] = c.dispatches as u64;
+    words[BADS_WORD] = c.bads as u64;
     let mut k = 0;
-    while k < roles::ROLES {
+    while k < ROLES {
         let place = places[k];
         words[FIRST_ROLE + k] = place.0 as u64;
         k += 1;
@@ -72,8 +84,8 @@ fn word_at(words: &[u64], k: usize) -> u64
 pub fn tally_in(words: &[u64]) -> Tally
     ensures { λ r. ⌜ r ≡ stateIn (now (words .entry)) .tally ⌝ }
 {
-    let lines = word_at(words, 0);
-    let nid = word_at(words, 1);
+    let lines = word_at(words, LINES_WORD);
+    let nid = word_at(words, NID_WORD);
     Tally {
         lines: lines as usize,
         nid,
@@ -83,10 +95,10 @@ pub fn tally_in(words: &[u64]) -> Tally
 pub fn counts_in(words: &[u64]) -> Counts
     ensures { λ r. ⌜ r ≡ stateIn (now (words .entry)) .counts ⌝ }
 {
-    let names = word_at(words, 2);
-    let edges = word_at(words, 3);
-    let dispatches = word_at(words, 4);
-    let bads = word_at(words, 5);
+    let names = word_at(words, NAMES_WORD);
+    let edges = word_at(words, EDGES_WORD);
+    let dispatches = word_at(words, DISPATCHES_WORD);
+    let bads = word_at(words, BADS_WORD);
     Counts {
         names: names as usize,
         edges: edges as usize,
@@ -95,12 +107,12 @@ pub fn counts_in(words: &[u64]) -> Counts
     }
 }
 
-fn roles_in(words: &[u64]) -> [NodeRef; 79]
+fn roles_in(words: &[u64]) -> [NodeRef; ROLES]
     ensures { λ r. ⌜ r ≡ rolesIn (now (words .entry)) ⌝ }
 {
-    let mut roles = [NodeRef(0); 79];
+    let mut roles = [NodeRef(0); ROLES];
     let mut k = 0;
-    while k < roles::ROLES {
+    while k < ROLES {
         let place = word_at(words, FIRST_ROLE + k);
         roles[k] = NodeRef(place as usize);
         k += 1;
@@ -201,7 +213,7 @@ fn flows_in(words: &[u64]) -> Flows
 // Which role is a register's node, and which its flow; x0's node for what has none.
 fn node_role(r: u64) -> usize
     ensures is { λ k. ⌜ k ≡ nodeRole r ⌝ }
-    ensures most { λ k. ⌜ k ≤ 78 ⌝ }
+    ensures small { λ k. ⌜ k < roleCount ⌝ }
 {
     if r > LAST_REGISTER {
         return roles::REGISTERS;
@@ -211,7 +223,7 @@ fn node_role(r: u64) -> usize
 
 fn flow_role(r: u64) -> usize
     ensures is { λ k. ⌜ k ≡ flowRole r ⌝ }
-    ensures most { λ k. ⌜ k ≤ 78 ⌝ }
+    ensures small { λ k. ⌜ k < roleCount ⌝ }
 {
     if r == 0 {
         return roles::REGISTERS;
@@ -253,41 +265,33 @@ pub fn put_counts(words: &mut [u64], t: Tally, c: Counts)
 
 fn store_counts(words: &mut [u64], t: Tally, c: Counts)
     requires { ⌜ stateWords ≤ length (now words) ⌝ }
-    ensures { λ _. ⌜ now (words .exit) ≡ sets (now (words .entry)) 0 (countWords t c) ⌝ }
+    ensures { λ _. ⌜ now (words .exit) ≡ withState (now (words .entry)) (stateOf t c (rolesIn (now (words .entry)))) ⌝ }
 {
-    words[0] = t.lines as u64;
-    words[1] = t.nid;
-    words[2] = c.names as u64;
-    words[3] = c.edges as u64;
-    words[4] = c.dispatches as u64;
-    words[5] = c.bads as u64;
+    words[LINES_WORD] = t.lines as u64;
+    words[NID_WORD] = t.nid;
+    words[NAMES_WORD] = c.names as u64;
+    words[EDGES_WORD] = c.edges as u64;
+    words[DISPATCHES_WORD] = c.dispatches as u64;
+    words[BADS_WORD] = c.bads as u64;
 }
 
 fn put_flows(words: &mut [u64], f: Flows)
     requires { ⌜ stateWords ≤ length (now words) ⌝ }
-    ensures { λ _. ⌜ now (words .exit) ≡ putFlows (now (words .entry)) (flowsOf f) ⌝ }
+    ensures { λ _. ⌜ now (words .exit) ≡ withRoles (now (words .entry)) (withFlows (rolesIn (now (words .entry))) (flowsOf f)) ⌝ }
 {
-    let counter = f.counter;
-    let maximum = f.maximum;
-    let division = f.division;
-    let remainder = f.remainder;
-    let access = f.access;
-    let addition = f.addition;
-    let multiplication = f.multiplication;
-    let ecall = f.ecall;
-    words[FIRST_ROLE + roles::COUNTER_FLOW] = counter.0 as u64;
-    words[FIRST_ROLE + roles::MAXIMUM_FLOW] = maximum.0 as u64;
-    words[FIRST_ROLE + roles::DIVISION_FLOW] = division.0 as u64;
-    words[FIRST_ROLE + roles::REMAINDER_FLOW] = remainder.0 as u64;
-    words[FIRST_ROLE + roles::ACCESS_FLOW] = access.0 as u64;
-    words[FIRST_ROLE + roles::ADDITION_FLOW] = addition.0 as u64;
-    words[FIRST_ROLE + roles::MULTIPLICATION_FLOW] = multiplication.0 as u64;
-    words[FIRST_ROLE + roles::ECALL_FLOW] = ecall.0 as u64;
+    words[FIRST_ROLE + roles::COUNTER_FLOW] = f.counter.0 as u64;
+    words[FIRST_ROLE + roles::MAXIMUM_FLOW] = f.maximum.0 as u64;
+    words[FIRST_ROLE + roles::DIVISION_FLOW] = f.division.0 as u64;
+    words[FIRST_ROLE + roles::REMAINDER_FLOW] = f.remainder.0 as u64;
+    words[FIRST_ROLE + roles::ACCESS_FLOW] = f.access.0 as u64;
+    words[FIRST_ROLE + roles::ADDITION_FLOW] = f.addition.0 as u64;
+    words[FIRST_ROLE + roles::MULTIPLICATION_FLOW] = f.multiplication.0 as u64;
+    words[FIRST_ROLE + roles::ECALL_FLOW] = f.ecall.0 as u64;
 }
 
 fn put_outcome(words: &mut [u64], rd: u64, outcome: Outcome)
     requires { ⌜ stateWords ≤ length (now words) ⌝ }
-    ensures { λ _. ⌜ now (words .exit) ≡ putOutcome (now (words .entry)) rd (outcomeOf outcome) ⌝ }
+    ensures { λ _. ⌜ now (words .exit) ≡ withRoles (now (words .entry)) (withOutcome (rolesIn (now (words .entry))) rd (outcomeOf outcome)) ⌝ }
 {
     match outcome {
         Outcome::Nothing => {}
@@ -299,7 +303,7 @@ fn put_outcome(words: &mut [u64], rd: u64, outcome: Outcome)
 
 fn put_register(words: &mut [u64], rd: u64, x: NodeRef)
     requires { ⌜ stateWords ≤ length (now words) ⌝ }
-    ensures { λ _. ⌜ now (words .exit) ≡ putRegister (now (words .entry)) rd (x .0) ⌝ }
+    ensures { λ _. ⌜ now (words .exit) ≡ withRoles (now (words .entry)) (withRegisterFlow (rolesIn (now (words .entry))) rd x) ⌝ }
 {
     if rd == 0 {
         return;
@@ -307,5 +311,5 @@ fn put_register(words: &mut [u64], rd: u64, x: NodeRef)
     if rd > LAST_REGISTER {
         return;
     }
-    words[FIRST_ROLE + roles::REGISTER_FLOWS + rd as usize] = x.0 as u64;
+    words[FIRST_ROLE + (roles::REGISTER_FLOWS + rd as usize)] = x.0 as u64;
 }

@@ -1,1 +1,1 @@
-pub mod Family
+pub mod Shape

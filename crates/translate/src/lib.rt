@@ -1,4 +1,4 @@
-// One instruction's lines: a case for each kind, the line of its flow, and Jalr's bad line (the first `match` of unicorn's
+// One instruction's lines: those of its kind's shape, the line of its flow, and Jalr's bad line (the first `match` of unicorn's
 // `translate_to_model`).
 use btor2::Name;
 use btor2::NodeRef;
@@ -28,6 +28,7 @@ use riscv::BNE;
 use riscv::DIV;
 use riscv::DIVU;
 use riscv::DIVW;
+use riscv::ECALL;
 use riscv::JAL;
 use riscv::JALR;
 use riscv::LB;
@@ -61,208 +62,144 @@ use riscv::SUB;
 use riscv::SUBW;
 use riscv::SW;
 use riscv::XORI;
-ghost use mathlib.Core.Path.{_≡_};
-ghost use mathlib.Core.Bool.{Bool, _&&_};
-ghost use mathlib.Core.List.{[], _∷_};
-ghost use Prim.Native.Nat.{ℕ, _≤_};
-ghost use Rattle.riscv.specs.Kind.{kindAt, kindNumber, oneOf, Lb, Ld, Lhu, Sb, Sw, Sd, Addi, Xori, Srai, Sraiw, Add, And, Mul, Mulw, Beq, Bgeu, Jalr};
-ghost use Rattle.models.specs.Model.{model, regFlowIte, memoryFlowIte, settle, unimplemented, translate};
+use riscv::Zeros;
+use riscv::class_of;
+use riscv::has_bad;
+ghost use Rattle.riscv.specs.Kind.{kindAt};
+ghost use Rattle.models.specs.Model.{regFlowIte, memoryFlowIte, settle, unimplemented, translate};
 ghost use Rattle.models.specs.Code.{operandsOf, flowsOf, outcomeOf, modeledOf};
 ghost use Rattle.builder.specs.Gives.{Gives};
-ghost use Rattle.translate.specs.Family.{Branches, Loads, Stores, TakesConstant};
+ghost use Rattle.translate.specs.Shape.{shaped, Has};
 
-// The lines of a kind before that of its flow. `imm` is its constant; the tests are: imm is 0, rd is x0, rs1 is x0. What is no other kind
-// is Ecall.
-fn model_kind(
+// The shapes that a kind's lines have, each with what its kinds differ in: an operator, or for a load how many bits of a word are above those
+// that are loaded and whether these are signed, or for a store ones at the bits that are stored.
+enum Shape {
+    Constant,
+    Link,
+    Load(u64, bool),
+    Ld,
+    Store(u64),
+    Sd,
+    Addi,
+    Addiw,
+    Sltiu,
+    Slliw,
+    WithConstant(Operator),
+    ShiftedBack(Operator),
+    Summed(Bin),
+    SummedWord(Bin),
+    Shifted(Operator),
+    Sltu,
+    Sllw,
+    WithRegister(Operator),
+    Mul,
+    Mulw,
+    Divided(Bin),
+    Divw,
+    Remu,
+    Branch(Operator),
+    Ecall,
+}
+
+// The shape of a kind's lines. What is no other kind is Ecall.
+fn shape_of(kind: u64) -> Shape
+    ensures { λ r. ⌜ Has (kindAt kind) r ⌝ }
+{
+    match kind {
+        LUI => Shape::Constant,
+        AUIPC => Shape::Constant,
+        LB => Shape::Load(56, true),
+        LH => Shape::Load(48, true),
+        LW => Shape::Load(32, true),
+        LD => Shape::Ld,
+        LBU => Shape::Load(56, false),
+        LHU => Shape::Load(48, false),
+        SB => Shape::Store(0xff),
+        SH => Shape::Store(0xffff),
+        SW => Shape::Store(0xffff_ffff),
+        SD => Shape::Sd,
+        ADDI => Shape::Addi,
+        SLTIU => Shape::Sltiu,
+        XORI => Shape::WithConstant(Operator::Xor),
+        ORI => Shape::WithConstant(Operator::Or),
+        ANDI => Shape::WithConstant(Operator::And),
+        SLLI => Shape::WithConstant(Operator::Sll),
+        SRLI => Shape::WithConstant(Operator::Srl),
+        SRAI => Shape::WithConstant(Operator::Sra),
+        ADDIW => Shape::Addiw,
+        SLLIW => Shape::Slliw,
+        SRLIW => Shape::ShiftedBack(Operator::Srl),
+        SRAIW => Shape::ShiftedBack(Operator::Sra),
+        ADD => Shape::Summed(Bin::Add),
+        SUB => Shape::Summed(Bin::Sub),
+        SLL => Shape::Shifted(Operator::Sll),
+        SLTU => Shape::Sltu,
+        SRL => Shape::Shifted(Operator::Srl),
+        SRA => Shape::Shifted(Operator::Sra),
+        OR => Shape::WithRegister(Operator::Or),
+        AND => Shape::WithRegister(Operator::And),
+        MUL => Shape::Mul,
+        DIV => Shape::Divided(Bin::Div),
+        DIVU => Shape::Divided(Bin::Divu),
+        REMU => Shape::Remu,
+        ADDW => Shape::SummedWord(Bin::Add),
+        DIVW => Shape::Divw,
+        SUBW => Shape::SummedWord(Bin::Sub),
+        SLLW => Shape::Sllw,
+        MULW => Shape::Mulw,
+        BEQ => Shape::Branch(Operator::Eq),
+        BNE => Shape::Branch(Operator::Neq),
+        BLT => Shape::Branch(Operator::Slt),
+        BGE => Shape::Branch(Operator::Sgte),
+        BLTU => Shape::Branch(Operator::Ult),
+        BGEU => Shape::Branch(Operator::Ugte),
+        JAL => Shape::Link,
+        JALR => Shape::Link,
+        ECALL => Shape::Ecall,
+        _ => Shape::Ecall,
+    }
+}
+
+// The lines of a shape. `imm` is the kind's constant.
+fn model_shape(
     list: &mut [u64],
     t: Tally,
     e: Operands,
     f: Flows,
     imm: u64,
-    kind: u64,
-    z: bool,
-    d: bool,
-    s: bool,
+    shape: Shape,
+    z: Zeros,
 ) -> Modeled
-    ensures { λ r. ⌜ Gives (now (list .entry)) t (model (operandsOf e) (flowsOf f) imm (kindAt kind) z d s) (now (list .exit)) (r .tally) (modeledOf r) ⌝ }
+    ensures { λ r. ⌜ Gives (now (list .entry)) t (shaped shape (operandsOf e) (flowsOf f) imm z) (now (list .exit)) (r .tally) (modeledOf r) ⌝ }
 {
-    match kind {
-        LUI..=AUIPC => models_constant::constant(list, t, f, imm),
-        LB..=SD => model_access(list, t, e, f, imm, kind, z),
-        ADDI..=SRAIW => model_immediate(list, t, e, f, imm, kind, z, d, s),
-        ADD..=AND => model_register(list, t, e, f, kind),
-        MUL..=MULW => model_product(list, t, e, f, kind),
-        BEQ..=BGEU => {
-            let operator = branch_operator(kind);
-            models_control::model_branch(list, t, operator, e, f)
+    match shape {
+        Shape::Constant => models_constant::constant(list, t, f, imm),
+        Shape::Link => models_constant::link(list, t, f, imm, z.rd),
+        Shape::Load(spare, signed) => {
+            models_load::load(list, t, e, f, z.imm, imm, spare, signed)
         }
-        JAL..=JALR => models_constant::link(list, t, f, imm, d),
-        _ => models_control::model_ecall(list, t, e, f),
-    }
-}
-
-fn branch_operator(kind: u64) -> Operator
-    requires { ⌜ (kindNumber Beq ≤ kind) × (kind ≤ kindNumber Bgeu) ⌝ }
-    ensures { λ r. ⌜ Branches (kindAt kind) r ⌝ }
-{
-    match kind {
-        BEQ => Operator::Eq,
-        BNE => Operator::Neq,
-        BLT => Operator::Slt,
-        BGE => Operator::Sgte,
-        BLTU => Operator::Ult,
-        _ => Operator::Ugte,
-    }
-}
-
-// The lines of a load or a store.
-fn model_access(
-    list: &mut [u64],
-    t: Tally,
-    e: Operands,
-    f: Flows,
-    imm: u64,
-    kind: u64,
-    z: bool,
-) -> Modeled
-    requires { ⌜ (kindNumber Lb ≤ kind) × (kind ≤ kindNumber Sd) ⌝ }
-    ensures { λ r. ⌜ ((d s : Bool) → Gives (now (list .entry)) t (model (operandsOf e) (flowsOf f) imm (kindAt kind) z d s) (now (list .exit)) (r .tally) (modeledOf r)) ⌝ }
-{
-    match kind {
-        LD => models_load::model_ld(list, t, e, f, z, imm),
-        SD => models_store::model_sd(list, t, e, f, z, imm),
-        ..=LHU => {
-            let part = loaded_part(kind);
-            models_load::load(list, t, e, f, z, imm, part.spare, part.signed)
-        }
-        _ => {
-            let ones = stored_ones(kind);
-            models_store::store(list, t, e, f, z, imm, ones)
-        }
-    }
-}
-
-// How many bits of a word are above those that are loaded, and whether these are signed.
-struct Part {
-    spare: u64,
-    signed: bool,
-}
-
-fn loaded_part(kind: u64) -> Part
-    requires { ⌜ (kindNumber Lb ≤ kind) × (kind ≤ kindNumber Lhu) × ¬ (kind ≡ kindNumber Ld) ⌝ }
-    ensures { λ r. ⌜ Loads (kindAt kind) (r .spare) (r .signed) ⌝ }
-{
-    match kind {
-        LB => Part {
-            spare: 56,
-            signed: true,
-        },
-        LH => Part {
-            spare: 48,
-            signed: true,
-        },
-        LW => Part {
-            spare: 32,
-            signed: true,
-        },
-        LBU => Part {
-            spare: 56,
-            signed: false,
-        },
-        _ => Part {
-            spare: 48,
-            signed: false,
-        },
-    }
-}
-
-// Ones at the bits that are stored.
-fn stored_ones(kind: u64) -> u64
-    requires { ⌜ (kindNumber Sb ≤ kind) × (kind ≤ kindNumber Sw) ⌝ }
-    ensures { λ r. ⌜ Stores (kindAt kind) r ⌝ }
-{
-    match kind {
-        SB => 0xff,
-        SH => 0xffff,
-        _ => 0xffff_ffff,
-    }
-}
-
-// The lines of a kind that takes a register and an immediate.
-fn model_immediate(
-    list: &mut [u64],
-    t: Tally,
-    e: Operands,
-    f: Flows,
-    imm: u64,
-    kind: u64,
-    z: bool,
-    d: bool,
-    s: bool,
-) -> Modeled
-    requires { ⌜ (kindNumber Addi ≤ kind) × (kind ≤ kindNumber Sraiw) ⌝ }
-    ensures { λ r. ⌜ Gives (now (list .entry)) t (model (operandsOf e) (flowsOf f) imm (kindAt kind) z d s) (now (list .exit)) (r .tally) (modeledOf r) ⌝ }
-{
-    match kind {
-        ADDI => models_addition::model_addi(list, t, e, f, imm, d, z, s),
-        SLTIU => models_immediate::model_sltiu(list, t, e, f, imm),
-        ADDIW => models_addition::model_addiw(list, t, e, f, imm),
-        SLLIW => models_shift32::model_slliw(list, t, e, f, imm),
-        SRLIW => models_shift32::shifted_back(list, t, Operator::Srl, e, f, imm),
-        SRAIW => models_shift32::shifted_back(list, t, Operator::Sra, e, f, imm),
-        _ => {
-            let operator = immediate_operator(kind);
-            models_immediate::with_constant(list, t, operator, e, f, imm)
-        }
-    }
-}
-
-fn immediate_operator(kind: u64) -> Operator
-    requires { ⌜ (kindNumber Xori ≤ kind) × (kind ≤ kindNumber Srai) ⌝ }
-    ensures { λ r. ⌜ TakesConstant (kindAt kind) r ⌝ }
-{
-    match kind {
-        XORI => Operator::Xor,
-        ORI => Operator::Or,
-        ANDI => Operator::And,
-        SLLI => Operator::Sll,
-        SRLI => Operator::Srl,
-        _ => Operator::Sra,
-    }
-}
-
-// The lines of a kind that takes two registers, but for products and words of 32 bits.
-fn model_register(list: &mut [u64], t: Tally, e: Operands, f: Flows, kind: u64) -> Modeled
-    requires { ⌜ (kindNumber Add ≤ kind) × (kind ≤ kindNumber And) ⌝ }
-    ensures { λ r. ⌜ ((imm : ℕ) (z d s : Bool) → Gives (now (list .entry)) t (model (operandsOf e) (flowsOf f) imm (kindAt kind) z d s) (now (list .exit)) (r .tally) (modeledOf r)) ⌝ }
-{
-    match kind {
-        ADD => models_word::summed(list, t, Bin::Add, e, f),
-        SUB => models_word::summed(list, t, Bin::Sub, e, f),
-        SLL => models_register::shifted(list, t, Operator::Sll, e, f),
-        SLTU => models_register::model_sltu(list, t, e, f),
-        SRL => models_register::shifted(list, t, Operator::Srl, e, f),
-        SRA => models_register::shifted(list, t, Operator::Sra, e, f),
-        OR => models_register::with_register(list, t, Operator::Or, e, f),
-        _ => models_register::with_register(list, t, Operator::And, e, f),
-    }
-}
-
-// The lines of a product, a quotient, a remainder, or of a kind for words of 32 bits.
-fn model_product(list: &mut [u64], t: Tally, e: Operands, f: Flows, kind: u64) -> Modeled
-    requires { ⌜ (kindNumber Mul ≤ kind) × (kind ≤ kindNumber Mulw) ⌝ }
-    ensures { λ r. ⌜ ((imm : ℕ) (z d s : Bool) → Gives (now (list .entry)) t (model (operandsOf e) (flowsOf f) imm (kindAt kind) z d s) (now (list .exit)) (r .tally) (modeledOf r)) ⌝ }
-{
-    match kind {
-        MUL => models_product::model_mul(list, t, e, f),
-        DIV => models_division::divided(list, t, Bin::Div, e, f),
-        DIVU => models_division::divided(list, t, Bin::Divu, e, f),
-        REMU => models_division::model_remu(list, t, e, f),
-        ADDW => models_word::summed_word(list, t, Bin::Add, e, f),
-        DIVW => models_division::model_divw(list, t, e, f),
-        SUBW => models_word::summed_word(list, t, Bin::Sub, e, f),
-        SLLW => models_word::model_sllw(list, t, e, f),
-        _ => models_product::model_mulw(list, t, e, f),
+        Shape::Ld => models_load::model_ld(list, t, e, f, z.imm, imm),
+        Shape::Store(ones) => models_store::store(list, t, e, f, z.imm, imm, ones),
+        Shape::Sd => models_store::model_sd(list, t, e, f, z.imm, imm),
+        Shape::Addi => models_addition::model_addi(list, t, e, f, imm, z),
+        Shape::Addiw => models_addition::model_addiw(list, t, e, f, imm),
+        Shape::Sltiu => models_immediate::model_sltiu(list, t, e, f, imm),
+        Shape::Slliw => models_shift32::model_slliw(list, t, e, f, imm),
+        Shape::WithConstant(o) => models_immediate::with_constant(list, t, o, e, f, imm),
+        Shape::ShiftedBack(o) => models_shift32::shifted_back(list, t, o, e, f, imm),
+        Shape::Summed(o) => models_word::summed(list, t, o, e, f),
+        Shape::SummedWord(o) => models_word::summed_word(list, t, o, e, f),
+        Shape::Shifted(o) => models_register::shifted(list, t, o, e, f),
+        Shape::Sltu => models_register::model_sltu(list, t, e, f),
+        Shape::Sllw => models_word::model_sllw(list, t, e, f),
+        Shape::WithRegister(o) => models_register::with_register(list, t, o, e, f),
+        Shape::Mul => models_product::model_mul(list, t, e, f),
+        Shape::Mulw => models_product::model_mulw(list, t, e, f),
+        Shape::Divided(o) => models_division::divided(list, t, o, e, f),
+        Shape::Divw => models_division::model_divw(list, t, e, f),
+        Shape::Remu => models_division::model_remu(list, t, e, f),
+        Shape::Branch(o) => models_control::model_branch(list, t, o, e, f),
+        Shape::Ecall => models_control::model_ecall(list, t, e, f),
     }
 }
 
@@ -359,7 +296,7 @@ fn model_unimplemented(
     m
 }
 
-// All that an instruction appends; `bad` is that it is Jalr under x0.
+// All that an instruction appends.
 pub fn translate_lines(
     list: &mut [u64],
     t: Tally,
@@ -370,13 +307,12 @@ pub fn translate_lines(
     imm: u64,
     name: Name,
     kind: u64,
-    z: bool,
-    d: bool,
-    s: bool,
+    z: Zeros,
 ) -> Modeled
-    ensures { λ r. ⌜ Gives (now (list .entry)) t (translate (operandsOf e) (flowsOf f) («register_flow» .0) («memory_flow» .0) imm name (kindAt kind) z d s) (now (list .exit)) (r .tally) (modeledOf r) ⌝ }
+    ensures { λ r. ⌜ Gives (now (list .entry)) t (translate (operandsOf e) (flowsOf f) («register_flow» .0) («memory_flow» .0) imm name (kindAt kind) z) (now (list .exit)) (r .tally) (modeledOf r) ⌝ }
 {
-    let m = model_kind(list, t, e, f, imm, kind, z, d, s);
+    let shape = shape_of(kind);
+    let m = model_shape(list, t, e, f, imm, shape, z);
     let tally = m.tally;
     let flows = m.flows;
     let outcome = m.outcome;
@@ -389,15 +325,7 @@ pub fn translate_lines(
         flows,
         outcome,
     );
-    let bad = jalr_under_zero(kind, s);
+    let class = class_of(kind);
+    let bad = has_bad(class, z);
     model_unimplemented(list, bad, e.flag, name, n)
-}
-
-fn jalr_under_zero(kind: u64, s: bool) -> bool
-    ensures { λ r. ⌜ r ≡ (oneOf (kindAt kind) (Jalr ∷ []) && s) ⌝ }
-{
-    if kind == JALR {
-        return s;
-    }
-    false
 }

@@ -11,4 +11,4 @@ returns-2 : tie.Need-returns-2
 returns-2 c = rw (lt-ltb _ _ (c .before .if1 .left), ← c .fetch .ensures)
 
 pub get-spec : {M : Type 1} → statement M
-get-spec = tie.close (tie.spec returns (λ c. search needs) (λ c κs. search needs) returns-2)
+get-spec = tie.close (tie.spec returns (λ c κs. search needs) returns-2)

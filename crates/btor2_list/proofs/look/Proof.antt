@@ -1,9 +1,9 @@
 -- A line that is there is read by its kind and its sort, which are the record's. Assumes nothing.
 use mathlib.Core.Path.{refl}
-use Prim.Native.Nat.{_*_, _≤_, _<_}
+use Prim.Native.Nat.{_≤_, _<_}
 use denote.Ref.{now}
 use native.Mathlib.Omega.{arith}
-use Rattle.btor2_list.specs.Record.{stride, lineAt}
+use Rattle.btor2_list.specs.Record.{recordAt}
 use borrow.Author.Tests.{le-ltb, lt-ltb}
 use borrow.Author.Needs.{needs}
 use Rattle.btor2_list.proofs.look.Statement.{statement}
@@ -22,22 +22,22 @@ returns-2 c =
     rw (lt-ltb _ _ listed, le-ltb _ _ (c .if2 .taken))
 
 returns-3 : tie.Need-returns-3
-unfolding lineAt
+unfolding recordAt
 returns-3 c =
     let k = c .before .before .before in
     let e = k .before .before in
     let a = e .before .before .before .args in
     let listed : a .place .0 < a .lines = omega arith in
-    rw (lt-ltb _ _ listed, lt-ltb _ _ (e .if2 .left), ← k .carries .ensures (lineAt (now (a .list)) (a .place .0 * stride)) refl refl, c .before .s .given .1)
+    rw (lt-ltb _ _ listed, lt-ltb _ _ (e .if2 .left), ← k .carries .ensures (recordAt (now (a .list)) (a .place .0)) refl refl, c .before .s .given .1)
 
 returns-4 : tie.Need-returns-4
-unfolding lineAt
+unfolding recordAt
 returns-4 c =
     let k = c .before .before in
     let e = k .before .before in
     let a = e .before .before .before .args in
     let listed : a .place .0 < a .lines = omega arith in
-    rw (lt-ltb _ _ listed, lt-ltb _ _ (e .if2 .left), ← k .carries .ensures (lineAt (now (a .list)) (a .place .0 * stride)) refl refl, c .enum-told .given .1)
+    rw (lt-ltb _ _ listed, lt-ltb _ _ (e .if2 .left), ← k .carries .ensures (recordAt (now (a .list)) (a .place .0)) refl refl, c .enum-told .given .1)
 
 pub look-spec : {M : Type 1} → statement M
 look-spec = tie.close (tie.spec returns returns-2 (λ c. search needs) (λ c. search needs) (λ c. search needs) (λ c. search needs) (λ c κs. search needs) (λ c. search needs) (λ c. search needs) returns-3 returns-4)

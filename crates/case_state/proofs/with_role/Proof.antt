@@ -2,17 +2,18 @@
 use native.Mathlib.Omega.{arith}
 use borrow.Author.Needs.{needs}
 use borrow.Author.Tests.{lt-ltb, le-ltb}
+use Rattle.roles.specs.Roles.{roleCount}
 use Rattle.case_state.specs.State.{withRole}
 use Rattle.case_state.proofs.with_role.Statement.{statement}
 use Rattle.case_state.proofs.with_role.Tie as tie
 
 returns : tie.Need-returns
 unfolding withRole
-returns c = rw (le-ltb (c .before .args .role) 79 (omega (arith, c .if1 .taken)))
+returns c = rw (le-ltb (c .before .args .role) roleCount (omega (arith, c .if1 .taken)))
 
 returns-2 : tie.Need-returns-2
 unfolding withRole
-returns-2 c = rw (lt-ltb (c .before .args .role) 79 (omega (arith, c .if1 .left)))
+returns-2 c = rw (lt-ltb (c .before .args .role) roleCount (omega (arith, c .if1 .left)))
 
 pub with-role-spec : {M : Type 1} → statement M
 with-role-spec = tie.close (tie.spec returns (λ c. search needs) (λ c. search needs) returns-2)

@@ -1,12 +1,6 @@
 -- Each arm's number names its kind; the last has ruled them all out. Assumes nothing.
-use Prim.Native.Nat.{ℕ, _<_}
-use mathlib.Core.Path.{_≡_, _∙_}
-use mathlib.Core.Bool.{false}
-use mathlib.Core.List.{List, [], _∷_}
-use lib.Dec.{T, eqb, lit<}
-use Rattle.bitvec.proofs.LastArm.{among, differs}
-use Rattle.riscv.specs.Kind.{kindAt, kindNumber}
-use Rattle.riscv.proofs.Numbered.{told}
+use mathlib.Core.List.{[], _∷_}
+use Rattle.riscv.proofs.Numbered.{none-of}
 use Rattle.models.specs.Model.{constantOf}
 use borrow.Author.Needs.{needs}
 use Rattle.constants.proofs.constant_of.Statement.{statement}
@@ -44,16 +38,11 @@ returns-8 : tie.Need-returns-8
 unfolding constantOf
 returns-8 c = rw (c .before .match .keys8) (c .wrapping-add-u645 .ensures)
 
--- the kinds that have an arm, the last one first
-abbrev arms : List ℕ
-arms = 48 ∷ 47 ∷ 23 ∷ 22 ∷ 21 ∷ 19 ∷ 1 ∷ 0 ∷ []
-
 returns-9 : tie.Need-returns-9
 unfolding constantOf
 returns-9 c =
-    let n = c .before .args .kind in
-    let other : (m : ℕ) → m < 49 → T (among m arms) → eqb (kindNumber (kindAt n)) m ≡ false = λ m h t. told n m h ∙ differs arms n (c .match .rest) m t in
-    rw (other 0 (lit< tt) tt, other 1 (lit< tt) tt, other 19 (lit< tt) tt, other 21 (lit< tt) tt, other 22 (lit< tt) tt, other 23 (lit< tt) tt, other 47 (lit< tt) tt, other 48 (lit< tt) tt)
+    let no = none-of (48 ∷ 47 ∷ 23 ∷ 22 ∷ 21 ∷ 19 ∷ 1 ∷ 0 ∷ []) (c .before .args .kind) (c .match .rest) in
+    rw (no 0 tt, no 1 tt, no 19 tt, no 21 tt, no 22 tt, no 23 tt, no 47 tt, no 48 tt)
 
 pub constant-of-spec : {M : Type 1} → statement M
 constant-of-spec =

@@ -11,7 +11,7 @@ use Rattle.btor2.specs.SortRule.{hasSort}
 use Rattle.line_operator.specs.declared.Operator.{Operator}
 use Rattle.line_operator.specs.Operator.{opFrom}
 use Rattle.evaluation_calls.specs.Inside.{numFrom, wordSort}
-use Rattle.evaluation_calls.proofs.Steps.{refused, valued, choice-refused, chosen, passed, cover-refused, covered, uncovered, pair-refused, pair-values, first-refused, second-refused, two-values, Entered, num-refused, cell-refused, counted, enter, from-word, calls-bits, calls-words, sort-ite, sort-and, sort-or, sort-not, call, calls, call-alike, of-const, of-read, of-bin, of-eq, of-and, of-or, of-ite, of-not, of-ext, of-state, of-init, of-input, cell-write, cell-ite, cell-state, cell-init, cell-input, turned-word, turned-bit, no-word, no-bit, no-cell}
+use Rattle.evaluation_calls.proofs.Steps.{refused, valued, choice-refused, chosen, passed, cover-refused, covered, uncovered, pair-refused, pair-values, first-refused, second-refused, two-values, Entered, num-refused, cell-refused, counted, enter, from-word, calls-bits, calls-words, sort-ite, sort-and, sort-or, sort-not, call, calls, call-alike, of-const, of-read, of-bin, of-eq, of-and, of-or, of-ite, of-not, of-ext, is-state, is-init, is-input, of-given, cell-write, cell-ite, cell-given, turned-word, turned-bit, no-word, no-bit, no-cell}
 use borrow.Fn.Kinds.{In}
 use borrow.Fn.PlainCycle.{Measures, is, falls, and}
 use Rattle.evaluation_calls.proofs.alike.Reads as alike
@@ -203,9 +203,9 @@ pub +alike+bits+cell+eval-bit+eval-word+words-spec : {M : Type 1} → statement 
     (λ c. let e = c .before .before .before .before .before .before .before in choice-refused (cell-ite (c .before .before .before .before .before .before .before .before .before .before .before .before .before .args .address) (entered-cell t e (c .before .before .before .before .before .o2 .given .1))) (c .before .before .before .eval-bit .ensures) (c .before .r2 .given .1))
     (λ c. let e = c .before .before .before .before .before .before .before .before .before in chosen (cell-ite (c .before .before .before .before .before .before .before .before .before .before .before .before .before .before .before .args .address) (entered-cell t e (c .before .before .before .before .before .before .before .o2 .given .1))) (c .before .before .before .before .before .eval-bit .ensures) (c .before .before .before .x2 .given .1) (c .before .if3 .taken) (c .cell2 .ensures))
     (λ c. let e = c .before .before .before .before .before .before .before .before .before in passed (cell-ite (c .before .before .before .before .before .before .before .before .before .before .before .before .before .before .before .args .address) (entered-cell t e (c .before .before .before .before .before .before .before .o2 .given .1))) (c .before .before .before .before .before .eval-bit .ensures) (c .before .before .before .x2 .given .1) (c .before .if3 .left) (c .cell3 .ensures))
-    (λ c. let s = c .before .before .before .before .before .before .before .before .before in let e = c .before .before .before in cell-state (s .args .address) (entered-cell t e (c .before .enum-told .given .1)) (s .pre .1 .sort) (c .given-cell .ensures))
-    (λ c. let s = c .before .before .before .before .before .before .before .before .before in let e = c .before .before .before in cell-init (s .args .address) (entered-cell t e (c .before .enum-told2 .given .1)) (s .pre .1 .sort) (c .given-cell2 .ensures))
-    (λ c. let s = c .before .before .before .before .before .before .before .before .before in let e = c .before .before .before in cell-input (s .args .address) (entered-cell t e (c .before .enum-told3 .given .1)) (s .pre .1 .sort) (c .given-cell3 .ensures))
+    (λ c. let s = c .before .before .before .before .before .before .before .before .before in let e = c .before .before .before in cell-given (s .args .address) is-state (entered-cell t e (c .before .enum-told .given .1)) (s .pre .1 .sort) (c .given-cell .ensures))
+    (λ c. let s = c .before .before .before .before .before .before .before .before .before in let e = c .before .before .before in cell-given (s .args .address) is-init (entered-cell t e (c .before .enum-told2 .given .1)) (s .pre .1 .sort) (c .given-cell2 .ensures))
+    (λ c. let s = c .before .before .before .before .before .before .before .before .before in let e = c .before .before .before in cell-given (s .args .address) is-input (entered-cell t e (c .before .enum-told3 .given .1)) (s .pre .1 .sort) (c .given-cell3 .ensures))
     (λ c. let s = c .before .before .before .before .before .before .before in let e = c .before in no-cell (c .before .before .before .visit .result .line) (s .args .address) (c .match .keys6) (entered-cell t e refl) (s .pre .1 .sort)))
     (λ t. eval-bit-lts.spec (
       visit-reads.Asked,
@@ -288,9 +288,9 @@ pub +alike+bits+cell+eval-bit+eval-word+words-spec : {M : Type 1} → statement 
     (λ c. let e = c .before .before .before .before .before .before .before .before in pair-values (of-or (entered-bit t e (c .before .before .before .before .before .before .o6 .given .1))) (c .before .before .before .before .bits2 .ensures) (c .before .before .x5 .given .1) (c .disjunction .ensures))
     (λ c. let e = c .before .before .before .before .before .before .before in refused (of-not (entered-bit t e (c .before .before .before .before .before .o7 .given .1))) (c .before .before .before .eval-bit4 .ensures) (c .before .r6 .given .1))
     (λ c. let e = c .before .before .before .before .before .before .before .before in turned-bit (entered-bit t e (c .before .before .before .before .before .before .o7 .given .1)) (c .before .before .before .before .before .before .before .before .before .before .before .before .before .before .pre .1 .sort) (c .before .before .before .before .eval-bit4 .ensures) (c .before .before .x6 .given .1) (c .bit-not .ensures))
-    (λ c. let e = c .before .before .before .before in of-state (entered-bit t e (c .before .before .o8 .given .1)) (c .given .ensures))
-    (λ c. let e = c .before .before .before .before in of-init (entered-bit t e (c .before .before .o9 .given .1)) (c .given2 .ensures))
-    (λ c. let e = c .before .before .before .before in of-input (entered-bit t e (c .before .before .o10 .given .1)) (c .given3 .ensures))
+    (λ c. let e = c .before .before .before .before in of-given is-state (entered-bit t e (c .before .before .o8 .given .1)) (c .given .ensures))
+    (λ c. let e = c .before .before .before .before in of-given is-init (entered-bit t e (c .before .before .o9 .given .1)) (c .given2 .ensures))
+    (λ c. let e = c .before .before .before .before in of-given is-input (entered-bit t e (c .before .before .o10 .given .1)) (c .given3 .ensures))
     (λ c. let e = c .before in no-bit (c .before .before .before .visit .result .line) (c .match .keys11) (entered-bit t e refl) (c .before .before .before .before .before .before .before .pre .1 .sort)))
     (λ t. eval-word-lts.spec (
       visit-reads.Asked,
@@ -379,9 +379,9 @@ pub +alike+bits+cell+eval-bit+eval-word+words-spec : {M : Type 1} → statement 
     (λ c. let e = c .before .before .before .before .before .before .before .before in pair-values (of-or (entered-word t e (c .before .before .before .before .before .before .o7 .given .1))) (c .before .before .before .before .words3 .ensures) (c .before .before .x5 .given .1) (c .disjunction .ensures))
     (λ c. let e = c .before .before .before .before .before .before .before in refused (of-not (entered-word t e (c .before .before .before .before .before .o8 .given .1))) (c .before .before .before .eval-word5 .ensures) (c .before .r6 .given .1))
     (λ c. let e = c .before .before .before .before .before .before .before .before in turned-word (entered-word t e (c .before .before .before .before .before .before .o8 .given .1)) (c .before .before .before .before .before .before .before .before .before .before .before .before .before .before .pre .1 .sort) (c .before .before .before .before .eval-word5 .ensures) (c .before .before .x6 .given .1) (c .word-not .ensures))
-    (λ c. let e = c .before .before .before .before in of-state (entered-word t e (c .before .before .o9 .given .1)) (c .given .ensures))
-    (λ c. let e = c .before .before .before .before in of-init (entered-word t e (c .before .before .o10 .given .1)) (c .given2 .ensures))
-    (λ c. let e = c .before .before .before .before in of-input (entered-word t e (c .before .before .o11 .given .1)) (c .given3 .ensures))
+    (λ c. let e = c .before .before .before .before in of-given is-state (entered-word t e (c .before .before .o9 .given .1)) (c .given .ensures))
+    (λ c. let e = c .before .before .before .before in of-given is-init (entered-word t e (c .before .before .o10 .given .1)) (c .given2 .ensures))
+    (λ c. let e = c .before .before .before .before in of-given is-input (entered-word t e (c .before .before .o11 .given .1)) (c .given3 .ensures))
     (λ c. let e = c .before in no-word (c .before .before .before .visit .result .line) (c .match .keys12) (entered-word t e refl) (c .before .before .before .before .before .before .before .pre .1 .sort)))
     λ t. words-lts.spec
     (eval-word-below t, eval-word.Post)

@@ -5,7 +5,7 @@ use denote.Ref.{now}
 use borrow.Author.Needs.{needs}
 use borrow.Author.Tests.{lt-ltb}
 use Rattle.btor2_list.specs.Node.{opOf}
-use Rattle.list_check.proofs.Found.{found, not-found}
+use Rattle.btor2_list.proofs.Got.{found, not-found}
 use Rattle.evaluation_calls.proofs.operator_at.Statement.{statement}
 use Rattle.evaluation_calls.proofs.operator_at.Tie as tie
 

@@ -7,16 +7,16 @@ use borrow.Author.Tests.{eq-eqb, ne-eqb}
 use lib.Dec.{eqb}
 use lib.ListN.{length, drop}
 use lib.Seq.{getD-drop}
-use Rattle.btor2_list.specs.Records.{recordsIn}
-use Rattle.given_values.specs.Given.{NodeValue, valueStride, valueIn, forNode, firstGiven, givenValue}
-use Rattle.given_values.proofs.Records.{found, passed, ended, first-word}
+use Rattle.btor2_list.specs.Records.{recordsIn, firstGiven}
+use Rattle.given_values.specs.Given.{NodeValue, valueStride, valueIn, forNode, givenValue}
+use Rattle.btor2_list.proofs.Records.{found, passed, ended, first-word}
 use Rattle.given_values.proofs.first_value.Statement.{statement}
 use Rattle.given_values.proofs.first_value.Tie as tie
 
 abbrev Inv-loop : tie.InvT-loop
 Inv-loop values p records i₀ i =
     (records ≡ length values / valueStride) × (i ≤ records)
-    × (firstGiven (forNode p) (λ (x : NodeValue). x .value) (recordsIn valueStride valueIn (records - i) (drop (i * valueStride) values)) ≡ givenValue values p)
+    × (firstGiven 0 (forNode p) (λ (x : NodeValue). x .value) (recordsIn valueStride valueIn (records - i) (drop (i * valueStride) values)) ≡ givenValue values p)
 
 abbrev μ-loop : tie.MeasureT-loop
 μ-loop values p records i₀ i = records - i
@@ -31,7 +31,7 @@ returns c =
     let vs = now (a .values) in
     let i = l .loop .i in
     sym (getD-drop (i * valueStride) vs 1 0)
-    ∙ found valueStride valueIn (forNode (a .place .0)) (λ (x : NodeValue). x .value) (length vs / valueStride) i vs (l .loop .inv .2) (omega arith)
+    ∙ found 0 valueStride valueIn (forNode (a .place .0)) (λ (x : NodeValue). x .value) (length vs / valueStride) i vs (l .loop .inv .2) (omega arith)
     (ap (λ (q : ℕ). eqb q (a .place .0)) (first-word (i * valueStride) vs) ∙ eq-eqb _ _ (c .before .if1 .taken))
 
 loop-again : tie.Need-loop-again Inv-loop μ-loop
@@ -42,7 +42,7 @@ loop-again c =
     let i = l .loop .i in (
       refl,
       omega arith,
-      passed valueStride valueIn (forNode (a .place .0)) (λ (x : NodeValue). x .value) (length vs / valueStride) i vs (l .loop .inv .2) (omega arith)
+      passed 0 valueStride valueIn (forNode (a .place .0)) (λ (x : NodeValue). x .value) (length vs / valueStride) i vs (l .loop .inv .2) (omega arith)
           (ap (λ (q : ℕ). eqb q (a .place .0)) (first-word (i * valueStride) vs) ∙ ne-eqb _ _ (c .if1 .left)),
     )
 
@@ -51,7 +51,7 @@ returns-2 c =
     let l = c .before in
     let a = l .before .args in
     let vs = now (a .values) in
-    ended valueStride valueIn (forNode (a .place .0)) (λ (x : NodeValue). x .value) (length vs / valueStride) (l .loop .i) vs (l .loop .inv .2) (omega arith)
+    ended 0 valueStride valueIn (forNode (a .place .0)) (λ (x : NodeValue). x .value) (length vs / valueStride) (l .loop .i) vs (l .loop .inv .2) (omega arith)
 
 pub first-value-spec : {M : Type 1} → statement M
 first-value-spec =

@@ -5,16 +5,17 @@ use denote.Ref.{now}
 use native.Mathlib.Omega.{arith}
 use lib.ListN.{length, drop}
 use lib.Seq.{getD-drop}
-use Rattle.btor2_list.specs.Records.{recordsIn}
-use Rattle.given_values.specs.Given.{NodeCell, cellStride, cellIn, forCell, firstGiven, givenCell}
-use Rattle.given_values.proofs.Records.{found, passed, ended, first-word, kept}
+use Rattle.btor2_list.specs.Records.{recordsIn, firstGiven}
+use Rattle.given_values.specs.Given.{NodeCell, cellStride, cellIn, forCell, givenCell}
+use Rattle.btor2_list.proofs.Records.{found, passed, ended, first-word}
+use Rattle.given_values.proofs.Records.{kept}
 use Rattle.given_values.proofs.given_cell.Statement.{statement}
 use Rattle.given_values.proofs.given_cell.Tie as tie
 
 abbrev Inv-loop : tie.InvT-loop
 Inv-loop memory address p records i₀ i =
     (records ≡ length memory / cellStride) × (i ≤ records)
-    × (firstGiven (forCell p address) (λ (x : NodeCell). x .word) (recordsIn cellStride cellIn (records - i) (drop (i * cellStride) memory)) ≡ givenCell memory p address)
+    × (firstGiven 0 (forCell p address) (λ (x : NodeCell). x .word) (recordsIn cellStride cellIn (records - i) (drop (i * cellStride) memory)) ≡ givenCell memory p address)
 
 abbrev μ-loop : tie.MeasureT-loop
 μ-loop memory address p records i₀ i = records - i
@@ -30,7 +31,7 @@ returns c =
     let i = l .loop .i in
     kept _ _
     (sym (getD-drop (i * cellStride) ws 2 0)
-    ∙ found cellStride cellIn (forCell (a .place .0) (a .address)) (λ (x : NodeCell). x .word) (length ws / cellStride) i ws (l .loop .inv .2) (omega arith) (rw (first-word (i * cellStride) ws, getD-drop (i * cellStride) ws 1 0) (c .before .if1 .taken)))
+    ∙ found 0 cellStride cellIn (forCell (a .place .0) (a .address)) (λ (x : NodeCell). x .word) (length ws / cellStride) i ws (l .loop .inv .2) (omega arith) (rw (first-word (i * cellStride) ws, getD-drop (i * cellStride) ws 1 0) (c .before .if1 .taken)))
     (c .shared-slice-known3 .given (i * cellStride + 2) .fits)
 
 loop-again : tie.Need-loop-again Inv-loop μ-loop
@@ -39,7 +40,7 @@ loop-again c =
     let a = l .before .args in
     let ws = now (a .memory) in
     let i = l .loop .i in
-    (refl, omega arith, passed cellStride cellIn (forCell (a .place .0) (a .address)) (λ (x : NodeCell). x .word) (length ws / cellStride) i ws (l .loop .inv .2) (omega arith) (rw (first-word (i * cellStride) ws, getD-drop (i * cellStride) ws 1 0) (c .if1 .left)))
+    (refl, omega arith, passed 0 cellStride cellIn (forCell (a .place .0) (a .address)) (λ (x : NodeCell). x .word) (length ws / cellStride) i ws (l .loop .inv .2) (omega arith) (rw (first-word (i * cellStride) ws, getD-drop (i * cellStride) ws 1 0) (c .if1 .left)))
 
 returns-2 : tie.Need-returns-2 Inv-loop μ-loop
 returns-2 c =
@@ -47,7 +48,7 @@ returns-2 c =
     let a = l .before .args in
     let ws = now (a .memory) in
     let i = l .loop .i in
-    kept _ _ (ended cellStride cellIn (forCell (a .place .0) (a .address)) (λ (x : NodeCell). x .word) (length ws / cellStride) i ws (l .loop .inv .2) (omega arith)) (omega arith)
+    kept _ _ (ended 0 cellStride cellIn (forCell (a .place .0) (a .address)) (λ (x : NodeCell). x .word) (length ws / cellStride) i ws (l .loop .inv .2) (omega arith)) (omega arith)
 
 pub given-cell-spec : {M : Type 1} → statement M
 given-cell-spec =

@@ -21,13 +21,17 @@ lent-to s = joinLent (now (s .args .list)) (now (s .args .names)) (now (s .args 
 abbrev given-to : tie.Start → JoinInput
 given-to s = let a = s .args in joinInput (now (a .edges)) (now (a .dispatches)) (now (a .flags)) (now (a .dynamics)) (a .a)
 
-number : (c : tie.After-refuse) → let s = c .before .before .before .before .before .before .before .before in c .refuse .result ≡ joinRefusal (lent-to s) (s .args .h) (given-to s)
-number c = let s = c .before .before .before .before .before .before .before .before in c .refuse .ensures (now (s .args .names)) (now (s .args .sequentials)) refl refl
+abbrev begun : tie.After-refuse → tie.Start
+begun c = c .before .before .before .before .before .before .before .before
+
+number : (c : tie.After-refuse) → let s = begun c in c .refuse .result ≡ joinRefusal (lent-to s) (s .args .h) (given-to s)
+number c = let s = begun c in c .refuse .ensures (now (s .args .names)) (now (s .args .sequentials)) refl refl
 
 accept-requires : tie.Need-accept-requires
 accept-requires c κs =
-    let s = c .before .before .before .before .before .before .before .before .before .before .before .before in
-    let p = passed (lent-to s) (s .args .h) (given-to s) (sym (number (c .before .before .before .before)) ∙ c .before .before .before .if1 .left) in
+    let accepted = c .before .before .before in
+    let s = begun (accepted .before) in
+    let p = passed (lent-to s) (s .args .h) (given-to s) (sym (number (accepted .before)) ∙ accepted .if1 .left) in
     record {
       edges = p .counts .edges;
       dispatches = p .counts .dispatches;
@@ -37,15 +41,17 @@ accept-requires c κs =
 
 returns : tie.Need-returns
 returns c =
-    let s = c .before .before .before .before .before .before .before .before .before .before in
+    let s = begun (c .before .before) in
     let n = number (c .before .before) in
     rw n (sym (refused-leaves (lent-to s) (s .args .h) (given-to s) (λ z. c .before .if1 .taken (n ∙ z))))
 
 returns-2 : tie.Need-returns-2
 unfolding joining
 returns-2 c =
-    let s = c .before .before .before .before .before .before .before .before .before .before .before .before .before .before .before .before .before .before .before in
-    rw (eq-eqb (joinRefusal (lent-to s) (s .args .h) (given-to s)) 0 (sym (number (c .before .before .before .before .before .before .before .before .before .before .before)) ∙ c .before .before .before .before .before .before .before .before .before .before .if1 .left)) (c .before .before .before .before .before .before .accept .ensures)
+    let done = c .before .before .before .before .before .before in
+    let accepted = done .before .before .before .before in
+    let s = begun (accepted .before) in
+    rw (eq-eqb (joinRefusal (lent-to s) (s .args .h) (given-to s)) 0 (sym (number (accepted .before)) ∙ accepted .if1 .left)) (done .accept .ensures)
 
 pub join-spec : {M : Type 1} → statement M
 join-spec =

@@ -5,13 +5,10 @@ use Rattle.lowering_lines.proofs.name_for.Statement.{statement}
 use Rattle.lowering_lines.proofs.name_for.Tie as tie
 
 returns : tie.Need-returns
-returns c = rw (sym (c .before .before .before .is-indirect .ensures) ∙ c .before .before .if1 .taken, c .before .if2 .taken, ← c .bad-name-len .ensures .0)
+returns c = rw (sym (c .before .before .has-bad .ensures) ∙ c .before .if1 .taken, ← c .bad-name-len .ensures .0)
 
 returns-2 : tie.Need-returns-2
-returns-2 c = rw (sym (c .before .before .before .is-indirect .ensures) ∙ c .before .before .if1 .taken, c .before .if2 .left) (c .no-name .ensures)
-
-returns-3 : tie.Need-returns-3
-returns-3 c = rw (sym (c .before .before .is-indirect .ensures) ∙ c .before .if1 .left) (c .no-name2 .ensures)
+returns-2 c = rw (sym (c .before .before .has-bad .ensures) ∙ c .before .if1 .left) (c .no-name .ensures)
 
 pub name-for-spec : {M : Type 1} → statement M
-name-for-spec = tie.close (tie.spec (λ c κs. search needs) (λ c κs. search needs) returns (λ c κs. search needs) returns-2 (λ c κs. search needs) returns-3)
+name-for-spec = tie.close (tie.spec (λ c κs. search needs) (λ c κs. search needs) returns (λ c κs. search needs) returns-2)

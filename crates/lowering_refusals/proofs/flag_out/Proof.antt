@@ -1,16 +1,13 @@
 -- A flag is looked at where it is needed. Assumes nothing.
 use mathlib.Core.Path.{sym, _∙_}
 use borrow.Author.Needs.{needs}
-use Rattle.lowering_refusals.specs.Refusal.{flagOut}
 use Rattle.lowering_refusals.proofs.flag_out.Statement.{statement}
 use Rattle.lowering_refusals.proofs.flag_out.Tie as tie
 
 returns : tie.Need-returns
-unfolding flagOut
 returns c = rw (sym (c .before .before .needs-flag .ensures) ∙ c .before .if1 .taken, ← c .value-sort .ensures)
 
 returns-2 : tie.Need-returns-2
-unfolding flagOut
 returns-2 c = rw (sym (c .before .needs-flag .ensures) ∙ c .if1 .left)
 
 pub flag-out-spec : {M : Type 1} → statement M

@@ -1,12 +1,12 @@
 -- The record of five numbers. Assumes nothing.
-use mathlib.Core.Path.{refl}
 use Rattle.lowering_refusals.specs.Refusal.{roomOf}
+use borrow.Author.Needs.{needs}
 use Rattle.lowering_refusals.proofs.room_of.Statement.{statement}
 use Rattle.lowering_refusals.proofs.room_of.Tie as tie
 
 returns : tie.Need-returns
 unfolding roomOf
-returns c = refl
+returns c = rw (c .capacity .ensures)
 
 pub room-of-spec : {M : Type 1} → statement M
-room-of-spec = tie.close (tie.spec returns)
+room-of-spec = tie.close (tie.spec (λ c κs. search needs) returns)

@@ -2,7 +2,7 @@
 use mathlib.Core.Path.{sym, _∙_}
 use denote.Ref.{now}
 use borrow.Author.Needs.{needs}
-use Rattle.list_check.proofs.Found.{found, not-found}
+use Rattle.btor2_list.proofs.Got.{found, not-found}
 use Rattle.nid_check.proofs.line_rises.Statement.{statement}
 use Rattle.nid_check.proofs.line_rises.Tie as tie
 

@@ -3,7 +3,7 @@ use mathlib.Core.Path.{_≡_, refl, sym, _∙_, ap}
 use denote.Ref.{now}
 use mathlib.Core.Bool.{true≢false}
 use borrow.Author.Tests.{lt-ltb}
-use Rattle.list_check.proofs.Found.{found, not-found}
+use Rattle.btor2_list.proofs.Got.{found, not-found}
 use borrow.Author.Needs.{needs}
 use Rattle.operand_check.proofs.line_broken.Statement.{statement}
 use Rattle.operand_check.proofs.line_broken.Tie as tie

@@ -10,7 +10,6 @@ use Rattle.list_check.specs.Formed.{opUnformed}
 use Rattle.list_check.specs.Operand.{noValueAt}
 use Rattle.list_check.proofs.Some.{some-on}
 use Rattle.list_check.proofs.Scan.{reached, scanned}
-use Rattle.line_text.proofs.Listed.{nid-inside}
 use Rattle.print.specs.Printing.{nidTooLarge}
 use Rattle.print.specs.Room.{said, rooms, Surveyed}
 use Rattle.print.proofs.Rooms.{rooms-suc, told}
@@ -27,15 +26,6 @@ abbrev μ-loop : tie.MeasureT-loop
 loop-holds : tie.Need-loop-holds Inv-loop μ-loop
 unfolding some rooms
 loop-holds c = (omega arith, refl, refl, λ h. omega arith)
-
-mul-at : tie.Need-mul-at Inv-loop μ-loop
-mul-at c = search needs
-
-mul-if1 : tie.Need-mul-if1 Inv-loop μ-loop
-mul-if1 c = search needs
-
-shared-slice-read-if1 : tie.Need-shared-slice-read-if1 Inv-loop μ-loop
-shared-slice-read-if1 c = search needs
 
 returns : tie.Need-returns Inv-loop μ-loop
 returns c h = absurd (omega arith)
@@ -54,7 +44,7 @@ loop-again c =
     let w = c .before in
     let k = w .before in
     let e = k .before in
-    let l = e .before .before .before in
+    let l = e .before .before .before .before in
     let a = l .before .before .args in
     let ws = now (a .list) in
     let inv = l .loop .inv in
@@ -62,7 +52,7 @@ loop-again c =
     let below : w .with-name .result < 2 ^ 64 - 1 = omega (arith, c .if2 .left) in
     let found = told ws (l .loop .i) (a .host) (a .ours) (l .loop .names) (w .with-name .result) (rw (k .check-line .ensures .0) at (w .with-name .ensures below)) in (
       omega arith,
-      some-on (l .loop .i) _ (inv .1) (rw (← nid-inside ws (a .lines) (l .loop .i) (omega arith) (omega arith)) (le-ltb _ _ (e .if1 .left))),
+      some-on (l .loop .i) _ (inv .1) (rw (← e .before .before .nid-at .ensures) (le-ltb _ _ (e .if1 .left))),
       some-on (l .loop .i) _ (inv .2) (sym on ∙ found .0),
       λ h. omega (arith, found .1, rooms-suc ws (l .loop .i), inv .3 (omega arith)),
     )
@@ -79,4 +69,4 @@ returns-3 c h =
 pub survey-spec : {M : Type 1} → statement M
 survey-spec =
     tie.close
-    (tie.spec Inv-loop μ-loop loop-holds mul-at mul-if1 shared-slice-read-if1 returns (λ c κs. search needs) (λ c κs. search needs) returns-2 add-i loop-less loop-again returns-3)
+    (tie.spec Inv-loop μ-loop loop-holds (λ c κs. search needs) returns (λ c κs. search needs) (λ c κs. search needs) returns-2 add-i loop-less loop-again returns-3)

@@ -2,8 +2,7 @@
 use mathlib.Core.Path.{sym}
 use mathlib.Core.Bool.{or-false}
 use mathlib.Core.List.{[], _∷_}
-use Rattle.bitvec.proofs.LastArm.{differs}
-use Rattle.riscv.proofs.Numbered.{number-at}
+use Rattle.riscv.proofs.Numbered.{none-of}
 use Rattle.riscv.proofs.amount_out.Statement.{statement}
 use Rattle.riscv.proofs.amount_out.Tie as tie
 
@@ -24,8 +23,8 @@ returns-5 c = rw (c .match .keys5)
 
 returns-6 : tie.Need-returns-6
 returns-6 c =
-    let no = differs (23 ∷ 22 ∷ 21 ∷ 18 ∷ 17 ∷ []) (c .before .args .kind) (c .match .rest) in
-    simp (number-at _ (c .before .pre), no 17 tt, no 18 tt, no 21 tt, no 22 tt, no 23 tt)
+    let no = none-of (23 ∷ 22 ∷ 21 ∷ 18 ∷ 17 ∷ []) (c .before .args .kind) (c .match .rest) in
+    simp (no 17 tt, no 18 tt, no 21 tt, no 22 tt, no 23 tt)
 
 pub amount-out-spec : {M : Type 1} → statement M
 amount-out-spec = tie.close (tie.spec returns returns-2 returns-3 returns-4 returns-5 returns-6)

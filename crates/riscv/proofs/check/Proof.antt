@@ -60,8 +60,11 @@ past4 c h = past3 (c .before .before) (miss 3 (from4 (c .before .before .before 
 past5 : (c : tie.Else5) {x : ℕ} → let i = c .before .before .before .before .before .before .before .before .before .before .args .i in x ≡ first (from5 i) → x ≡ refusal i
 past5 c h = past4 (c .before .before) (miss 4 (from5 (c .before .before .before .before .before .before .before .before .before .before .args .i)) (sym (c .before .zero-srliw .ensures) ∙ c .if5 .left) h)
 
-past6 : (c : tie.Else6) {x : ℕ} → let i = c .before .before .before .before .before .before .before .before .before .before .before .before .args .i in x ≡ first (from6 i) → x ≡ refusal i
-past6 c h = past5 (c .before .before) (miss 5 (from6 (c .before .before .before .before .before .before .before .before .before .before .before .before .args .i)) (sym (c .before .zero-rd .ensures) ∙ c .if6 .left) h)
+zero : (c : tie.After-zero-rd) → let i = c .before .before .before .before .before .before .before .before .before .before .before .before .args .i in c .zero-rd .result ≡ zeroRd (kindAt (i .kind)) (i .rd)
+zero c = rw (← c .before .before .before .before .before .before .before .before .before .before .format-of .ensures, ← c .before .class-of .ensures) (c .zero-rd .ensures)
+
+past6 : (c : tie.Else6) {x : ℕ} → let i = c .before .before .before .before .before .before .before .before .before .before .before .before .before .args .i in x ≡ first (from6 i) → x ≡ refusal i
+past6 c h = past5 (c .before .before .before) (miss 5 (from6 (c .before .before .before .before .before .before .before .before .before .before .before .before .before .args .i)) (sym (zero (c .before)) ∙ c .if6 .left) h)
 
 returns : tie.Need-returns
 unfolding refusal
@@ -80,7 +83,7 @@ returns-5 : tie.Need-returns-5
 returns-5 c = past4 (c .before .before) (hit 4 (from5 (c .before .before .before .before .before .before .before .before .before .before .args .i)) (sym (c .before .zero-srliw .ensures) ∙ c .if5 .taken))
 
 returns-6 : tie.Need-returns-6
-returns-6 c = past5 (c .before .before) (hit 5 (from6 (c .before .before .before .before .before .before .before .before .before .before .before .before .args .i)) (sym (c .before .zero-rd .ensures) ∙ c .if6 .taken))
+returns-6 c = past5 (c .before .before .before) (hit 5 (from6 (c .before .before .before .before .before .before .before .before .before .before .before .before .before .args .i)) (sym (zero (c .before)) ∙ c .if6 .taken))
 
 returns-7 : tie.Need-returns-7
 returns-7 c = past6 (c .before .before) (hit 6 [] (sym (c .before .indirect-offset .ensures) ∙ c .if7 .taken))
@@ -91,4 +94,4 @@ returns-8 c = past6 (c .before .before) (miss 6 [] (sym (c .before .indirect-off
 pub check-spec : {M : Type 1} → statement M
 check-spec =
     tie.close
-    (tie.spec returns (λ c κs. search needs) (λ c κs. search needs) returns-2 (λ c κs. search needs) returns-3 (λ c κs. search needs) returns-4 (λ c κs. search needs) returns-5 (λ c κs. search needs) returns-6 (λ c κs. search needs) returns-7 returns-8)
+    (tie.spec returns (λ c κs. search needs) (λ c κs. search needs) returns-2 (λ c κs. search needs) returns-3 (λ c κs. search needs) returns-4 (λ c κs. search needs) returns-5 (λ c κs. search needs) (λ c κs. search needs) returns-6 (λ c κs. search needs) returns-7 returns-8)

@@ -9,23 +9,23 @@ use lib.ListN.{length, drop}
 use borrow.Author.Needs.{needs}
 use Rattle.btor2.specs.Sort.{sortNumber}
 use Rattle.btor2_list.specs.Look.{lookAt}
-use Rattle.roles.specs.Roles.{role}
+use Rattle.roles.specs.Roles.{role, roleCount}
 use Rattle.roles_check.specs.RolesFit.{valueSort, roleSort, rolesFit}
 use Rattle.roles_check.proofs.Sorts.{out-not, out-is}
 use Rattle.roles_check.proofs.roles_out.Statement.{statement}
 use Rattle.roles_check.proofs.roles_out.Tie as tie
 
 abbrev Inv-loop : tie.InvT-loop
-Inv-loop list lines roles held role₀ role = (role ≤ 79) × (length roles ≡ 79) × (rolesFit list lines role (drop role roles) ≡ rolesFit list lines 0 roles)
+Inv-loop list lines roles role₀ role = (role ≤ roleCount) × (length roles ≡ roleCount) × (rolesFit list lines role (drop role roles) ≡ rolesFit list lines 0 roles)
 
 abbrev μ-loop : tie.MeasureT-loop
-μ-loop list lines roles held role₀ role = 79 - role
+μ-loop list lines roles role₀ role = roleCount - role
 
 loop-holds : tie.Need-loop-holds Inv-loop μ-loop
 loop-holds c = (omega arith, search needs, refl)
 
 role-out-requires : tie.Need-role-out-requires Inv-loop μ-loop
-role-out-requires c κs = (refl, (c .role-sort .ensures .1 .0, c .role-sort .ensures .1 .1))
+role-out-requires c κs = (c .role-sort .ensures .1 .0, c .role-sort .ensures .1 .1)
 
 returns : tie.Need-returns Inv-loop μ-loop
 returns c =

@@ -3,7 +3,7 @@ use mathlib.Core.Path.{sym, _∙_, ap}
 use mathlib.Core.Bool.{not}
 use denote.Ref.{now}
 use borrow.Author.Needs.{needs}
-use Rattle.list_check.proofs.Found.{found, not-found}
+use Rattle.btor2_list.proofs.Got.{found, not-found}
 use Rattle.sort_check.proofs.line_breaks.Statement.{statement}
 use Rattle.sort_check.proofs.line_breaks.Tie as tie
 

@@ -3,7 +3,7 @@ use mathlib.Core.Path.{sym, _∙_}
 use denote.Ref.{now}
 use borrow.Author.Needs.{needs}
 use borrow.Author.Tests.{lt-ltb, le-ltb}
-use Rattle.list_check.proofs.Found.{found, not-found}
+use Rattle.btor2_list.proofs.Got.{found, not-found}
 use Rattle.sort_check.proofs.state_at.Statement.{statement}
 use Rattle.sort_check.proofs.state_at.Tie as tie
 

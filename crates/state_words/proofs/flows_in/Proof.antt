@@ -2,7 +2,7 @@
 use native.Mathlib.Omega.{arith}
 use borrow.Author.Needs.{needs}
 use denote.Ref.{now}
-use Rattle.roles.specs.Roles.{flowsIn}
+use Rattle.roles.specs.Roles.{counterFlow, maximumFlow, divisionFlow, remainderFlow, accessFlow, additionFlow, multiplicationFlow, ecallFlow, flowsIn}
 use Rattle.state_words.proofs.Words.{role-at}
 use Rattle.state_words.proofs.flows_in.Statement.{statement}
 use Rattle.state_words.proofs.flows_in.Tie as tie
@@ -11,7 +11,7 @@ returns : tie.Need-returns
 unfolding flowsIn
 returns c =
     let ws = now (c .before .before .before .before .before .before .before .before .args .words) in
-    rw (role-at ws 71 (omega arith), role-at ws 72 (omega arith), role-at ws 73 (omega arith), role-at ws 74 (omega arith), role-at ws 75 (omega arith), role-at ws 76 (omega arith), role-at ws 77 (omega arith), role-at ws 78 (omega arith))
+    rw (role-at ws counterFlow (omega arith), role-at ws maximumFlow (omega arith), role-at ws divisionFlow (omega arith), role-at ws remainderFlow (omega arith), role-at ws accessFlow (omega arith), role-at ws additionFlow (omega arith), role-at ws multiplicationFlow (omega arith), role-at ws ecallFlow (omega arith))
 
 pub flows-in-spec : {M : Type 1} → statement M
 flows-in-spec =

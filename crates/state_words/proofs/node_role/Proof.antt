@@ -2,14 +2,15 @@
 use native.Mathlib.Omega.{arith}
 use borrow.Author.Needs.{needs}
 use borrow.Author.Tests.{lt-ltb, le-ltb}
+use Rattle.riscv.specs.Format.{lastRegister}
 use Rattle.state_words.proofs.node_role.Statement.{statement}
 use Rattle.state_words.proofs.node_role.Tie as tie
 
 returns : tie.Need-returns
-returns c = (rw (lt-ltb 31 _ (c .if1 .taken)), omega arith)
+returns c = (rw (lt-ltb lastRegister _ (c .if1 .taken)), omega arith)
 
 returns-2 : tie.Need-returns-2
-returns-2 c = (rw (le-ltb 31 _ (c .if1 .left)), omega arith)
+returns-2 c = (rw (le-ltb lastRegister _ (c .if1 .left)), omega arith)
 
 pub node-role-spec : {M : Type 1} → statement M
 node-role-spec =

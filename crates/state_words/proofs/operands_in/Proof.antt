@@ -2,9 +2,8 @@
 use native.Mathlib.Omega.{arith}
 use borrow.Author.Needs.{needs}
 use denote.Ref.{now}
-use Rattle.roles.specs.Roles.{operandsFor}
-use Rattle.state_words.proofs.Words.{role-at}
-use Rattle.state_words.proofs.Put.{node-at}
+use Rattle.roles.specs.Roles.{zeroWord, oneWord, oneBit, memoryNode, counterNode, maximumNode, nodeRole, operandsFor}
+use Rattle.state_words.proofs.Words.{role-at, role-by}
 use Rattle.state_words.proofs.operands_in.Statement.{statement}
 use Rattle.state_words.proofs.operands_in.Tie as tie
 
@@ -15,7 +14,9 @@ returns c =
     let first = second .before .before in
     let a = first .before .before .args in
     let ws = now (a .words) in
-    rw (node-at ws (a .rs1) (first .node-role .result) (first .node-role .ensures .0), node-at ws (a .rs2) (second .node-role2 .result) (second .node-role2 .ensures .0), role-at ws 1 (omega arith), role-at ws 2 (omega arith), role-at ws 3 (omega arith), role-at ws 4 (omega arith), role-at ws 5 (omega arith), role-at ws 6 (omega arith))
+    let rs1 = first .node-role in
+    let rs2 = second .node-role2 in
+    rw (role-by ws (rs1 .result) (nodeRole (a .rs1)) (rs1 .ensures .0) (rs1 .ensures .1), role-by ws (rs2 .result) (nodeRole (a .rs2)) (rs2 .ensures .0) (rs2 .ensures .1), role-at ws oneBit (omega arith), role-at ws zeroWord (omega arith), role-at ws oneWord (omega arith), role-at ws memoryNode (omega arith), role-at ws counterNode (omega arith), role-at ws maximumNode (omega arith))
 
 pub operands-in-spec : {M : Type 1} → statement M
 operands-in-spec =

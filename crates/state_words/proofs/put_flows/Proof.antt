@@ -1,15 +1,20 @@
 -- Eight stores. Assumes nothing.
-use mathlib.Core.Path.{refl}
 use native.Mathlib.Omega.{arith}
 use borrow.Author.Needs.{needs}
 use lib.ListN.{length-set}
-use Rattle.state_words.specs.Put.{putFlows}
+use denote.Ref.{now}
+use Rattle.roles.specs.Roles.{counterFlow, maximumFlow, divisionFlow, remainderFlow, accessFlow, additionFlow, multiplicationFlow, ecallFlow, withFlows}
+use Rattle.state_words.proofs.Put.{unchanged, put, kept-is}
 use Rattle.state_words.proofs.put_flows.Statement.{statement}
 use Rattle.state_words.proofs.put_flows.Tie as tie
 
 returns : tie.Need-returns
-unfolding putFlows
-returns c = refl
+unfolding withFlows
+returns c =
+    let f = c .args .f in
+    kept-is
+    (put (put (put (put (put (put (put (put (unchanged (now (c .args .words)) (c .pre)) counterFlow (f .counter .0) (omega arith)) maximumFlow (f .maximum .0) (omega arith)) divisionFlow (f .division .0) (omega arith))
+    remainderFlow (f .remainder .0) (omega arith)) accessFlow (f .access .0) (omega arith)) additionFlow (f .addition .0) (omega arith)) multiplicationFlow (f .multiplication .0) (omega arith)) ecallFlow (f .ecall .0) (omega arith))
 
 pub put-flows-spec : {M : Type 1} → statement M
 put-flows-spec =

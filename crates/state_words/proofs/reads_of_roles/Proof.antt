@@ -2,8 +2,8 @@
 use native.Mathlib.Omega.{arith}
 use borrow.Author.Needs.{needs}
 use denote.Ref.{now}
-use Rattle.state_words.proofs.Words.{role-at}
-use Rattle.state_words.proofs.Put.{flow-at}
+use Rattle.roles.specs.Roles.{memoryFlow, flowRole}
+use Rattle.state_words.proofs.Words.{role-at, role-by}
 use Rattle.state_words.proofs.reads_of_roles.Statement.{statement}
 use Rattle.state_words.proofs.reads_of_roles.Tie as tie
 
@@ -14,7 +14,8 @@ returns c =
     let operands = flows .before in
     let a = operands .before .before .args in
     let ws = now (a .words) in
-    rw (← operands .operands-in .ensures, ← flows .flows-in .ensures, flow-at ws (a .i .rd) (flow .flow-role .result) (flow .flow-role .ensures .0), role-at ws 70 (omega arith))
+    let rd = flow .flow-role in
+    rw (← operands .operands-in .ensures, ← flows .flows-in .ensures, role-by ws (rd .result) (flowRole (a .i .rd)) (rd .ensures .0) (rd .ensures .1), role-at ws memoryFlow (omega arith))
 
 pub reads-of-roles-spec : {M : Type 1} → statement M
 reads-of-roles-spec =

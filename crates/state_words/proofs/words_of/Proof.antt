@@ -1,7 +1,7 @@
 -- The six words before the roles, then as many roles as were passed. Assumes nothing.
 use Prim.Native.Nat.{ℕ, _+_, _-_, _≤_, _<_}
 use mathlib.Core.Path.{_≡_, refl, sym, ap, _∙_}
-use mathlib.Core.List.{List, [], _∷_, _++_, map}
+use mathlib.Core.List.{List, _++_, map}
 use native.Mathlib.Omega.{arith}
 use borrow.Author.Needs.{needs}
 use lib.ListN.{length, length-set, length-append, length-map, getD, set, take, replicate, List·getD-map}
@@ -9,6 +9,7 @@ use lib.Seq.{getD-append-add, length-take-le, sets}
 use Rattle.btor2.specs.declared.NodeRef.{NodeRef}
 use Rattle.roles.specs.Roles.{ref, role, roleCount}
 use Rattle.state_words.specs.Words.{firstRole, stateWords, place, stateOut}
+use Rattle.state_words.proofs.Words.{six}
 use Rattle.state_words.proofs.Stored.{front, front-more, front-all}
 use Rattle.state_words.proofs.words_of.Statement.{statement}
 use Rattle.state_words.proofs.words_of.Tie as tie
@@ -18,15 +19,15 @@ abbrev wanted : List ℕ → List NodeRef → List ℕ
 wanted words₀ places = take firstRole words₀ ++ map place places
 
 module _ (words₀ : List ℕ) (places : List NodeRef) (size : length words₀ ≡ stateWords) (roles : length places ≡ roleCount) where
-  six : length (take firstRole words₀) ≡ firstRole
-  six = length-take-le firstRole words₀ (omega arith)
+  front-length : length (take firstRole words₀) ≡ firstRole
+  front-length = length-take-le firstRole words₀ (omega arith)
 
   wanted-length : length (wanted words₀ places) ≡ stateWords
-  wanted-length = omega (arith, length-append (take firstRole words₀) (map place places), length-map places place, six)
+  wanted-length = omega (arith, length-append (take firstRole words₀) (map place places), length-map places place, front-length)
 
   wanted-at : (k : ℕ) → getD (wanted words₀ places) (firstRole + k) 0 ≡ place (role places k)
   wanted-at k =
-      ap (λ n. getD (wanted words₀ places) (n + k) 0) (sym six) ∙ getD-append-add (take firstRole words₀) (map place places) k 0
+      ap (λ n. getD (wanted words₀ places) (n + k) 0) (sym front-length) ∙ getD-append-add (take firstRole words₀) (map place places) k 0
       ∙ List·getD-map place places k (ref 0)
 
   more : (k : ℕ) → k < roleCount → set (front (wanted words₀ places) words₀ (firstRole + k)) (firstRole + k) (place (role places k)) ≡ front (wanted words₀ places) words₀ (firstRole + (k + 1))
@@ -49,7 +50,7 @@ loop-again : tie.Need-loop-again Inv-loop μ-loop
 loop-again c =
     let l = c .before .before .loop in
     let a = c .before .before .before .args in
-    let words₀ = sets (replicate stateWords 0) 0 (a .t .lines ∷ a .t .nid ∷ a .c .names ∷ a .c .edges ∷ a .c .dispatches ∷ a .c .bads ∷ []) in (
+    let words₀ = sets (replicate stateWords 0) 0 (six (a .t) (a .c)) in (
       omega arith,
       refl,
       l .inv .2,
@@ -62,7 +63,7 @@ unfolding stateOut
 returns c =
     let l = c .before .loop in
     let a = c .before .before .args in
-    let words₀ = sets (replicate stateWords 0) 0 (a .t .lines ∷ a .t .nid ∷ a .c .names ∷ a .c .edges ∷ a .c .dispatches ∷ a .c .bads ∷ []) in
+    let words₀ = sets (replicate stateWords 0) 0 (six (a .t) (a .c)) in
     let all : firstRole + l .k ≡ stateWords = omega (arith, l .inv .0, c .loop-test .left) in
     (l .inv .4 ∙ ap (front (wanted words₀ (a .t3)) words₀) all ∙ front-all (wanted words₀ (a .t3)) words₀ stateWords (wanted-length words₀ (a .t3) refl (l .inv .2)) refl, l .inv .2)
 

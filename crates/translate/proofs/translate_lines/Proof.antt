@@ -8,10 +8,12 @@ returns : tie.Need-returns
 unfolding translate
 returns c =
     let u = c .before .before in
-    let j = u .before .before in
-    let s = j .before .before .before in
+    let b = u .before .before in
+    let s = b .before .before .before .before in
     let m = s .before .before .before .before .before .before in
-    on _ (m .model-kind .ensures) (on _ (s .settle-flow .ensures) (rw (← j .jalr-under-zero .ensures) (u .model-unimplemented .ensures)))
+    rw (m .before .before .shape-of .ensures)
+    (on _ (m .model-shape .ensures)
+    (on _ (s .settle-flow .ensures) (rw (← b .before .class-of .ensures, ← b .has-bad .ensures) (u .model-unimplemented .ensures))))
 
 pub translate-lines-spec : {M : Type 1} → statement M
-translate-lines-spec = tie.close (tie.spec free free free free (λ c. kept (returns c)) returns)
+translate-lines-spec = tie.close (tie.spec free free free free free free (λ c. kept (returns c)) returns)

@@ -28,14 +28,14 @@ returns c =
 
 accept-requires : tie.Need-accept-requires
 accept-requires c κs =
-    let e = c .before .before .before .before .before .before in
+    let e = c .before .before .before .before .before .before .before in
     let r = e .before in
     let weighed = r .before in
     let room = weighed .before .before in
     let start = room .before .before .before .before .before .before in
     let a = start .args in
     let good = start .good .1 in
-    ready _ (now (a .list)) (room .room-of .result) (a .t) (a .c) (a .i) (a .address) _ (weighed .weigh .result .needs) (weighed .weigh .ensures .1) (sym (number-is r) ∙ e .if1 .left)
+    ready _ (now (a .list)) (room .room-of .result) (a .t) (a .c) (a .i) (a .address) _ (weighed .weigh .result .needs) (weighed .weigh .ensures .1 .0) (sym (number-is r) ∙ e .if1 .left)
     (length (now (a .list))) (length (now (a .names))) (length (now (a .edges))) (length (now (a .dispatches))) (length (now (a .bads)))
     (room .room-of .ensures) (good .0 .0) (good .1 .0 .0) (good .1 .1 .0 .0) (good .1 .1 .1 .0 .0)
 
@@ -43,10 +43,11 @@ returns-2 : tie.Need-returns-2
 unfolding callApart
 returns-2 c =
     let call = c .before .before .before .before .before .before .before .before .before .before in
-    let e = call .before .before .before .before .before .before .before in
+    let e = call .before .before .before .before .before .before .before .before in
     let r = e .before in
-    let room = r .before .before .before in
-    rw (← room .room-of .ensures, ← number-is r, eq-eqb _ 0 (e .if1 .left)) (call .accept .ensures)
+    let weighed = r .before in
+    let room = weighed .before .before in
+    rw (← room .room-of .ensures, ← number-is r, eq-eqb _ 0 (e .if1 .left)) (rw (weighed .weigh .ensures .1 .1 .0, weighed .weigh .ensures .1 .1 .1) at (call .accept .ensures))
 
 pub lower-apart-spec : {M : Type 1} → statement M
 lower-apart-spec =
