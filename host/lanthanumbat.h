@@ -34,7 +34,7 @@
 //
 // STATE: 85 words, which the host makes once for its start and hands from call to call:
 //   0 lines in use   1 next identifier   2 bytes of NAMES in use   3 edges   4 dispatches   5 bads in use
-//   from 6 on the places that stand for the 79 roles (crates/roles):
+//   from 6 on the places that stand for the 79 roles (crates/state):
 //   6 7 the bits 0 and 1   8 9 the words 0 and 1   10 memory   11 counter   12 counter maximum   13 to 44 registers x0 to x31
 //   45 to 75 flows of x1 to x31   76 flow of memory   77 of counter   78 of counter maximum   79 of division   80 of remainder
 //   81 of access   82 of addition overflow   83 of multiplication overflow   84 of ecall

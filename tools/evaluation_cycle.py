@@ -33,8 +33,8 @@ use native.Mathlib.Omega.{{arith}}
 use borrow.Author.Needs.{{needs}}
 use Rattle.btor2.specs.declared.NodeType.the-variants.{{Bit, Word, Memory}}
 use Rattle.btor2.specs.SortRule.{{hasSort}}
-use Rattle.line_operator.specs.declared.Operator.{{Operator}}
-use Rattle.line_operator.specs.Operator.{{opFrom}}
+use Rattle.btor2_list.specs.declared.operator.LineOperator.{{LineOperator}}
+use Rattle.btor2_list.specs.Operator.{{opFrom}}
 use Rattle.{CRATE}.specs.Inside.{{numFrom, wordSort}}
 use Rattle.{CRATE}.proofs.Steps.{{LEMMAS}}"""
 
@@ -61,7 +61,7 @@ second-falls a b e = omega arith
 
 ENTERED = {"eval_word": "entered-word", "eval_bit": "entered-bit", "cell": "entered-cell"}
 ENTERS = """
-{lemma} : (t : ℕ) (c : {function}-lts.Else1 {callees} ({function}-at t) {function}.Post) {{o : Operator}} → c .before .before .visit .result .line ≡ o
+{lemma} : (t : ℕ) (c : {function}-lts.Else1 {callees} ({function}-at t) {function}.Post) {{o : LineOperator}} → c .before .before .visit .result .line ≡ o
     → let a = c .before .before .before .before .before .before .args in Entered (now (a .list)) (now (a .values)) (now (a .memory)) (a .place .0) (a .visits) (opFrom o)
 {lemma} t c q =
     let v = c .before .before in
@@ -153,9 +153,9 @@ def of_word():
         *two("or", "o7", "words3", "r5", "x5", "disjunction"),
         f"refused (of-not {{line:o8}}) {ensures('eval-word5')} {told('r6')}",
         f"turned-word {{line:o8}} {{sort}} {ensures('eval-word5')} {told('x6')} {ensures('word-not')}",
-        of("of-state", "o9", ensures("given")),
-        of("of-init", "o10", ensures("given2")),
-        of("of-input", "o11", ensures("given3")),
+        of("of-given is-state", "o9", ensures("given")),
+        of("of-given is-init", "o10", ensures("given2")),
+        of("of-given is-input", "o11", ensures("given3")),
         "no-word ({visit} .result .line) ({match} .keys12) {line} {sort}",
     ]
     from_word = "from-word ({o4} .given .0 .0) ({line:o4} .rules .0) (sym ({same} .ensures) ∙ {if2} .left)"
@@ -186,9 +186,9 @@ def of_bit():
         *two("or", "o6", "bits2", "r5", "x5", "disjunction"),
         f"refused (of-not {{line:o7}}) {ensures('eval-bit4')} {told('r6')}",
         f"turned-bit {{line:o7}} {{sort}} {ensures('eval-bit4')} {told('x6')} {ensures('bit-not')}",
-        of("of-state", "o8", ensures("given")),
-        of("of-init", "o9", ensures("given2")),
-        of("of-input", "o10", ensures("given3")),
+        of("of-given is-state", "o8", ensures("given")),
+        of("of-given is-init", "o9", ensures("given2")),
+        of("of-given is-input", "o10", ensures("given3")),
         "no-bit ({visit} .result .line) ({match} .keys11) {line} {sort}",
     ]
     return {
@@ -212,9 +212,9 @@ def of_cell():
         f"covered {covers} {told('x')} ({{if2}} .taken) {ensures('eval-word2')}",
         f"uncovered {covers} {told('x')} ({{if2}} .left) {ensures('cell')}",
         *choice("cell-ite {address} {line:o2}", "eval-bit", "r2", "x2", "if3", "cell2", "cell3"),
-        f"cell-state {{address}} {{line:enum-told}} {{sort}} {ensures('given-cell')}",
-        f"cell-init {{address}} {{line:enum-told2}} {{sort}} {ensures('given-cell2')}",
-        f"cell-input {{address}} {{line:enum-told3}} {{sort}} {ensures('given-cell3')}",
+        f"cell-given {{address}} is-state {{line:enum-told}} {{sort}} {ensures('given-cell')}",
+        f"cell-given {{address}} is-init {{line:enum-told2}} {{sort}} {ensures('given-cell2')}",
+        f"cell-given {{address}} is-input {{line:enum-told3}} {{sort}} {ensures('given-cell3')}",
         "no-cell ({visit} .result .line) {address} ({match} .keys6) {line} {sort}",
     ]
     own_sort = own("ite", MEMORY, "o2")

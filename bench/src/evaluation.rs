@@ -141,7 +141,7 @@ fn writes(count: u64) -> Questions {
 
 fn questions(path: &str) -> Vec<Questions> {
     let records = read(path);
-    let mut ours = ours::Ours::new(&records);
+    let mut ours = ours::Ours::new(&records, false);
     let (list, flows) = ours.lowered();
     if list.len() > MOST_LINES * LINE {
         fail("the records append more lines than an evaluation takes")

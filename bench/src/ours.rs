@@ -4,6 +4,12 @@ use crate::measure::{fail, Half, Record};
 
 extern "C" {
     #[rustfmt::skip]
+    fn lanthanumbat_lower(
+        list: *mut u64, list_len: usize, names: *mut u8, names_len: usize, edges: *mut u64, edges_len: usize,
+        dispatches: *mut u64, dispatches_len: usize, bads: *mut u64, bads_len: usize, state: *mut u64, state_len: usize,
+        address: u64, kind: u64, rd: u64, rs1: u64, rs2: u64, imm: u64, flag: usize,
+    ) -> u64;
+    #[rustfmt::skip]
     fn lanthanumbat_lower_all(
         list: *mut u64, list_len: usize, names: *mut u8, names_len: usize, edges: *mut u64, edges_len: usize,
         dispatches: *mut u64, dispatches_len: usize, bads: *mut u64, bads_len: usize, state: *mut u64, state_len: usize,
@@ -42,12 +48,13 @@ struct Lent {
 
 pub struct Ours<'a> {
     records: &'a [Record],
+    each: bool, // a call for each instruction, and not one for all
     lent: Lent,
 }
 
 impl<'a> Ours<'a> {
-    pub fn new(records: &'a [Record]) -> Self {
-        Self { records, lent: Lent::default() }
+    pub fn new(records: &'a [Record], each: bool) -> Self {
+        Self { records, each, lent: Lent::default() }
     }
 
     // The list with the lines of all records, and the flows of x1 to x31.
@@ -55,6 +62,24 @@ impl<'a> Ours<'a> {
         self.begin();
         let lines = START + self.lower();
         (&self.lent.list[..lines * LINE], &self.lent.state[FLOWS..FLOWS + 31])
+    }
+
+    fn lower_each(&mut self) -> usize {
+        let Lent { list, names, edges, dispatches, bads, state, .. } = &mut self.lent;
+        for r in self.records {
+            #[rustfmt::skip]
+            let refusal = unsafe {
+                lanthanumbat_lower(
+                    list.as_mut_ptr(), list.len(), names.as_mut_ptr(), names.len(), edges.as_mut_ptr(), edges.len(),
+                    dispatches.as_mut_ptr(), dispatches.len(), bads.as_mut_ptr(), bads.len(), state.as_mut_ptr(), state.len(),
+                    r.address, r.kind, r.rd, r.rs1, r.rs2, r.imm, FLAG,
+                )
+            };
+            if refusal != 0 {
+                fail(&format!("ours refuses {:?} with {}", r.text, refusal))
+            }
+        }
+        state[0] as usize - START
     }
 }
 
@@ -68,7 +93,7 @@ fn start(list: &mut [u64]) {
     }
 }
 
-// The tally, the counts and the roles, in the order of crates/roles.
+// The tally, the counts and the roles, in the order of crates/state.
 fn state() -> Vec<u64> {
     let tally_and_counts = [START as u64, FIRST + START as u64, 0, 0, 0, 0];
     let nodes = [0, 1, 2, 3, 35, 36, 37];
@@ -103,6 +128,9 @@ impl Half for Ours<'_> {
     }
 
     fn lower(&mut self) -> usize {
+        if self.each {
+            return self.lower_each();
+        }
         let Lent { list, names, edges, dispatches, bads, state, calls, .. } = &mut self.lent;
         let mut refusal = 0;
         #[rustfmt::skip]

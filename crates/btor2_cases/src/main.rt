@@ -9,8 +9,8 @@ use btor2::get_sort;
 use btor2_list::Found;
 use btor2_list::Line;
 use btor2_list::Looked;
-use case_record::read_record;
-use decimal_text::read_decimal;
+use cases::read_decimal;
+use cases::read_record;
 use libc::STDIN_FILENO;
 use libc::STDOUT_FILENO;
 
@@ -111,7 +111,7 @@ fn run_name(text: &[u8], at: usize) -> usize {
     io::write_all(STDOUT_FILENO, b"[");
     io::write_all(
         STDOUT_FILENO,
-        btor2_name::name_bytes(b"host", b"own area", name),
+        btor2_list::name_bytes(b"host", b"own area", name),
     );
     io::write_all(STDOUT_FILENO, b"]\n");
     len.next

@@ -49,7 +49,7 @@ same-words ws vs p q h = rw (h 0 (omega arith), h 1 (omega arith), h 2 (omega ar
 -- ---- a record is read as the line that it was written from, where its identifier and the area of its name fit their fields. Numbers of
 -- kinds and sorts that do not fit are read as others that name no kind and no sort either, and the fields that share words are not both used.
 
-pub record Fits (l : Line) : Type 0 where
+pub record LineFits (l : Line) : Type 0 where
   pub nid : l .nid .0 ≤ mostInNid
   pub area : l .name .area ≤ mostInByte
 
@@ -90,7 +90,7 @@ either : (a b : Bool) → (a || b) ≡ true → (a ≡ true) ⊎ (b ≡ true)
 either true b e = inl refl
 either false b e = inr e
 
-module _ (l : Line) (fits : Fits l) where
+module _ (l : Line) (fits : LineFits l) where
   -- the record that is read, with these numbers for its kind and its sort
   abbrev read : ℕ → ℕ → Line
   read kind sort = record {
@@ -176,7 +176,7 @@ module _ (ws : List ℕ) (p : ℕ) (l : Line) where
       go true = above (words l) ws (wordsFor p) k h
       go false = refl
 
-  pub put-node : holds ws p ≡ true → Fits l → nodeOf (recordAt (putAt ws p l) p) ≡ nodeOf l
+  pub put-node : holds ws p ≡ true → LineFits l → nodeOf (recordAt (putAt ws p l) p) ≡ nodeOf l
   put-node there fits =
       let room : p < capacity (length ws) = ltb-true _ _ there in
       rw there

@@ -16,7 +16,7 @@ use Rattle.btor2_list.specs.declared.Line.{Line}
 use Rattle.btor2_list.specs.Record.{recordAt, holds, putAt}
 use Rattle.btor2_list.specs.Node.{Node, node, lineOf, opOf, nodeOf}
 use Rattle.btor2_list.specs.View.{view}
-use Rattle.btor2_list.proofs.Stored.{Fits, put-node, put-other}
+use Rattle.btor2_list.proofs.Stored.{LineFits, put-node, put-other}
 
 -- ---- a line that is written is read as itself
 
@@ -73,7 +73,7 @@ view-kept ws p l (suc n) h =
     λ i. v i ++ (nodeOf (d i) ∷ [])
 
 -- and at place n is line n
-pub view-put : (ws : List ℕ) (n : ℕ) (l : Line) → holds ws n ≡ true → Fits l → view (putAt ws n l) (n + 1) ≡ view ws n ++ (nodeOf l ∷ [])
+pub view-put : (ws : List ℕ) (n : ℕ) (l : Line) → holds ws n ≡ true → LineFits l → view (putAt ws n l) (n + 1) ≡ view ws n ++ (nodeOf l ∷ [])
 unfolding view
 view-put ws n l there fits =
     let v = view-kept ws n l n (omega arith) in

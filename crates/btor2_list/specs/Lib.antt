@@ -5,3 +5,5 @@ pub mod Node
 pub mod View
 pub mod Look
 pub mod Records
+pub mod NameBytes
+pub mod Operator

@@ -1,10 +1,19 @@
 // The list of lines: records of numbers at a fixed stride in words that the host lends.
+mod name;
+mod operator;
+
 use btor2::MaybeSort;
 use btor2::Name;
 use btor2::Nid;
 use btor2::NodeRef;
 use btor2::NodeType;
 use btor2::sort_of;
+pub use name::HOST_AREA;
+pub use name::OUR_AREA;
+pub use name::name_bytes;
+pub use operator::Bin;
+pub use operator::LineOperator;
+pub use operator::operator_of;
 ghost use mathlib.Core.Path.{_≡_};
 ghost use mathlib.Core.Bool.{cond};
 ghost use Prim.Native.Nat.{_+_, _≤_, _<_};

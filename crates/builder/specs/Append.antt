@@ -8,7 +8,7 @@ use Rattle.btor2_list.specs.declared.Line.{Line}
 use Rattle.btor2_list.specs.Record.{holds, putAt}
 use Rattle.btor2_list.specs.Kinds.{stateKind}
 use Rattle.btor2_list.specs.Node.{lineOf}
-use Rattle.program.specs.Prog.{Run, ran}
+use Rattle.builder.specs.Prog.{Run, ran}
 use Rattle.builder.specs.declared.Made.{Made}
 use Rattle.builder.specs.declared.Tally.{Tally}
 

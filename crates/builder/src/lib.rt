@@ -1,13 +1,32 @@
 // The tally of lines and identifiers, and the append (unicorn's `add_node`). It is total: where the lent words hold no further record it
 // changes nothing.
+mod binary;
+mod lines;
+mod logic;
+mod memory;
+
+pub use binary::new_bin;
 use btor2::Name;
 use btor2::Nid;
 use btor2::NodeRef;
 use btor2_list::Line;
 use btor2_list::STATE;
+pub use lines::new_bad;
+pub use lines::new_const;
+pub use lines::new_ext;
+pub use lines::new_ite;
+pub use lines::new_next;
+pub use lines::new_state;
+pub use logic::new_and_bit;
+pub use logic::new_and_word;
+pub use logic::new_eq;
+pub use logic::new_not_bit;
+pub use logic::new_not_word;
+pub use memory::new_read;
+pub use memory::new_write;
 ghost use mathlib.Core.Path.{_≡_};
 ghost use Rattle.btor2_list.specs.Node.{row};
-ghost use Rattle.program.specs.Prog.{ran};
+ghost use Rattle.builder.specs.Prog.{ran};
 ghost use Rattle.builder.specs.Append.{nidsTaken, appendLine, at, made};
 
 // The count of lines, and the next identifier.
@@ -78,7 +97,7 @@ fn append_line(
 }
 
 // Appends a line of these fields under the next identifier, and gives its place. The tally is lent, and changed here.
-pub fn append(
+fn append(
     list: &mut [u64],
     tally: &mut Tally,
     kind: u64,
@@ -98,7 +117,7 @@ pub fn append(
 }
 
 // Every line of the builder comes here: the tally that came by value lies in a local, which is lent to the append.
-pub fn add_node(
+pub(crate) fn add_node(
     list: &mut [u64],
     t: Tally,
     kind: u64,

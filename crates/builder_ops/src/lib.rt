@@ -1,18 +1,29 @@
 // The operators that unicorn composes of others: unequal, or, arithmetic shift. Each call is handed the tally that the one before it left.
+mod extend;
+mod operator;
+mod overflow;
+
 use btor2::NodeRef;
+use btor2_list::Bin;
 use builder::Made;
 use builder::Tally;
-use builder_bin::Bin;
-use builder_bin::new_bin;
-use builder_lines::new_const;
-use builder_logic::new_and_word;
-use builder_logic::new_eq;
-use builder_logic::new_not_bit;
-use builder_logic::new_not_word;
+use builder::new_and_word;
+use builder::new_bin;
+use builder::new_const;
+use builder::new_eq;
+use builder::new_not_bit;
+use builder::new_not_word;
+pub use extend::new_sext_by;
+pub use extend::new_sext32;
+pub use extend::new_shift_right;
+pub use operator::Operator;
+pub use operator::apply;
+pub use overflow::check_addition_overflow;
+pub use overflow::check_multiplication_overflow;
 ghost use Rattle.builder_ops.specs.Composed.{newNeq, newOr, newSra};
 ghost use Rattle.builder.specs.Gives.{Gives};
 
-pub fn new_neq(list: &mut [u64], t: Tally, left: NodeRef, right: NodeRef) -> Made
+pub(crate) fn new_neq(list: &mut [u64], t: Tally, left: NodeRef, right: NodeRef) -> Made
     ensures { λ r. ⌜ Gives (now (list .entry)) t (newNeq (left .0) (right .0)) (now (list .exit)) (r .tally) (r .node .0) ⌝ }
 {
     let e = new_eq(list, t, left, right);

@@ -13,12 +13,12 @@ use Rattle.btor2.specs.SortRule.{meetsSortRule}
 use Rattle.btor2.specs.Value.{Env, value}
 use Rattle.btor2.proofs.SortRule.{line-kept}
 use Rattle.btor2_list.specs.Record.{wordsFor}
-use Rattle.roles.specs.Roles.{role, memoryFlow, registerFlow}
+use Rattle.state.specs.Roles.{role, memoryFlow, registerFlow}
 use Rattle.meaning.specs.Lines.{operators}
 use Rattle.meaning.proofs.Behind.{inside}
 use Rattle.roles_kept.proofs.RoleSets.{Fit, Roled, fit-flow}
-use Rattle.program.specs.Prog.{exec}
-use Rattle.control_flow.specs.Listed.{appendListed}
+use Rattle.builder.specs.Prog.{exec}
+use Rattle.join.specs.Listed.{appendListed}
 use Rattle.join.specs.Refusal.{JoinLent, JoinInput, joinProgram, joinRefusal}
 use Rattle.join.specs.declared.JoinHeld.{JoinHeld}
 use Rattle.join.specs.Join.{JoinAnswer, joinStore, joinSettled, joinRefused, joining}

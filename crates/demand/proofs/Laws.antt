@@ -7,11 +7,11 @@ use native.Mathlib.Omega.{arith}
 use borrow.Author.Tests.{eq-eqb, ltb-false}
 use lib.Dec.{T, ltb}
 use Rattle.btor2.specs.declared.NodeRef.{NodeRef}
-use Rattle.program.specs.Prog.{exec}
+use Rattle.builder.specs.Prog.{exec}
 use Rattle.builder.specs.Append.{at, append}
 use Rattle.riscv.specs.declared.Instruction.{Instruction}
-use Rattle.roles.specs.Roles.{role, registerNode, withFlows}
-use Rattle.lowering_refusals.specs.declared.State.{State}
+use Rattle.state.specs.Roles.{role, registerNode, withFlows}
+use Rattle.state.specs.declared.State.{State}
 use Rattle.lowering_refusals.specs.Refusal.{refusalOf}
 use Rattle.lowering.specs.Lowering.{Lent, Answer, roomIn, programOf, settled, loweringGiven, lowering}
 use Rattle.lowering_laws.proofs.OneCall.{when-refused}
@@ -29,11 +29,11 @@ refused-leaves h c q =
     (ap (λ (a : Answer). a .lent) e, ap (λ (a : Answer). a .lowered .state) e)
 
 -- an accepted call sets flows alone
-node-lowering : (l : Lent) (st : State) (i : Instruction) (pc : ℕ) (flag : NodeRef) → refusalOf (l .list) (roomIn l) st i pc (flag .0) ≡ 0
-    → (j : ℕ) → j < 39 → role (lowering l st i pc flag .lowered .state .roles) j ≡ role (st .roles) j
+node-lowering : (l : Lent) (st : State) (i : Instruction) (address : ℕ) (flag : NodeRef) → refusalOf (l .list) (roomIn l) st i address (flag .0) ≡ 0
+    → (j : ℕ) → j < 39 → role (lowering l st i address flag .lowered .state .roles) j ≡ role (st .roles) j
 unfolding loweringGiven settled
-node-lowering l st i pc flag e j h =
-    let r = exec append (at (l .list) (st .tally)) (programOf st i pc flag) in
+node-lowering l st i address flag e j h =
+    let r = exec append (at (l .list) (st .tally)) (programOf st i address flag) in
     rw e (outcome-node (withFlows (st .roles) (r .value .flows)) (i .rd) (r .value .outcome) j h ∙ flows-there (st .roles) (r .value .flows) j (omega arith))
 
 pub node-step : (h : Held) (c : Call) (j : ℕ) → j < 39 → role (step h c .state .roles) j ≡ role (h .state .roles) j

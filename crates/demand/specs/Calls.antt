@@ -10,7 +10,7 @@ use Rattle.btor2.specs.declared.NodeRef.{NodeRef}
 use Rattle.btor2.specs.Op.{Op}
 use Rattle.btor2_list.specs.Record.{wordsFor}
 use Rattle.riscv.specs.declared.Instruction.{Instruction}
-use Rattle.lowering_refusals.specs.declared.State.{State}
+use Rattle.state.specs.declared.State.{State}
 use Rattle.lowering.specs.Lowering.{Lent, lent, Answer, lowering}
 use Rattle.meaning.specs.Lines.{operators}
 use Rattle.join.specs.declared.JoinHeld.{JoinHeld}

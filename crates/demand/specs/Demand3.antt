@@ -14,10 +14,10 @@ use Rattle.riscv.specs.Class.{needsFlag}
 use Rattle.riscv.specs.Kind.{Kind, kindAt}
 use Rattle.riscv.specs.Manual.{Effect, nothing, setsRd, setsMemory, manual}
 use Rattle.riscv.specs.Memory.{bytesOf, cellsWith}
-use Rattle.roles.specs.Roles.{memoryNode, memoryFlow, roleCount, role, registerNode, registerFlow}
+use Rattle.state.specs.Roles.{memoryNode, memoryFlow, roleCount, role, registerNode, registerFlow}
 use Rattle.riscv.specs.Format.{lastRegister}
 use Rattle.riscv.specs.Zeros.{zerosOf}
-use Rattle.lowering_refusals.specs.Refusal.{roomOf}
+use Rattle.state.specs.Room.{roomOf}
 use Rattle.start.specs.Start.{startRefusal}
 use Rattle.meaning.specs.Access.{Admitted, excluded}
 use Rattle.demand.specs.Calls.{Held, linesIn, Request, Call, lower, join, accepted, step, run}

@@ -1,7 +1,7 @@
 -- A value that the bench gives is the line's, and demand 3 says what that is. Assumes nothing.
 use mathlib.Core.Path.{_∙_}
 use Rattle.meaning.specs.Lines.{operators}
-use Rattle.given_values.specs.Given.{givenEnv}
+use Rattle.evaluation.specs.Given.{givenEnv}
 use Rattle.evaluation.specs.Evaluation.{mostVisits}
 use Rattle.evaluation_laws.proofs.Law.{gives-the-value}
 use Rattle.demand.specs.Calls.{run}

@@ -10,20 +10,20 @@ use lib.ListN.{length, set, length-set}
 use Rattle.btor2.specs.declared.NodeRef.{NodeRef}
 use Rattle.btor2_list.specs.Record.{wordsFor}
 use Rattle.builder.specs.declared.Tally.{Tally}
-use Rattle.roles.specs.Roles.{roleCount}
-use Rattle.lowering_refusals.specs.declared.State.{State}
+use Rattle.state.specs.Roles.{roleCount}
+use Rattle.state.specs.declared.State.{State}
 use Rattle.lowering.specs.Lowering.{Lent, lent, Answer, lowering}
-use Rattle.state_words.specs.Words.{stateWords, stateIn, rolesIn, withState}
+use Rattle.state.specs.Words.{stateWords, stateIn, rolesIn, withState}
 use Rattle.lowering.specs.Words.{Given, givenBy, loweringWords}
 use Rattle.lowering.proofs.Refused.{refused-kept}
-use Rattle.state_words.proofs.Words.{by-six, size-in, state-kept, put-length}
+use Rattle.state.proofs.Words.{by-six, size-in, state-kept, put-length}
 use Rattle.lowering.proofs.Words.{read-back}
 use Rattle.roles_kept.proofs.Call.{called, refusal-is, roled-after}
-use Rattle.lowering_refusals.specs.declared.Counts.{Counts}
+use Rattle.state.specs.declared.Counts.{Counts}
 use Rattle.join.specs.declared.JoinHeld.{JoinHeld}
 use Rattle.join.specs.Refusal.{joinLineCount, joinProgram, joinRoomOut, joinRefusal, joinLent, JoinLent, JoinInput}
-use Rattle.program.specs.Prog.{exec}
-use Rattle.control_flow.specs.Listed.{appendListed}
+use Rattle.builder.specs.Prog.{exec}
+use Rattle.join.specs.Listed.{appendListed}
 use Rattle.join.specs.Join.{joinSettled, joinRefused, joinStore, joining, JoinAnswer}
 use Rattle.join.specs.Words.{joiningWords, joinBy}
 use Rattle.join.proofs.Laws.{refused-leaves, roles-stay}

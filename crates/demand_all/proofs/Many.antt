@@ -7,7 +7,7 @@ use borrow.Author.Tests.{eq-eqb, ne-eqb, eqb-true, eqb-false}
 use lib.Dec.{eqb}
 use lib.ListN.{length, take, drop}
 use Rattle.btor2_list.specs.Record.{wordsFor}
-use Rattle.lowering_refusals.specs.declared.State.{State}
+use Rattle.state.specs.declared.State.{State}
 use Rattle.lowering_refusals.specs.Refusal.{refusalOf}
 use Rattle.lowering.specs.Lowering.{Lent, lent, Answer, settled, roomIn, loweringGiven, lowering}
 use Rattle.lowering.specs.All.{LowerCall, AnswerAll, answerAll, loweringOn}

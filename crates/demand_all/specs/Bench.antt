@@ -4,8 +4,8 @@ use Prim.Native.Nat.{ℕ, _≤_}
 use mathlib.Core.Path.{_≡_}
 use mathlib.Core.List.{List}
 use Rattle.riscv.specs.Format.{lastRegister}
-use Rattle.roles.specs.Roles.{registerFlow}
-use Rattle.given_values.specs.Given.{givenEnv}
+use Rattle.state.specs.Roles.{registerFlow}
+use Rattle.evaluation.specs.Given.{givenEnv}
 use Rattle.evaluation.specs.declared.Evaluated.{Evaluated}
 use Rattle.evaluation.specs.declared.Evaluated.the-variants.{Value}
 use Rattle.evaluation.specs.Evaluation.{evaluated}

@@ -6,7 +6,7 @@ use mathlib.Core.Path.{_≡_}
 use mathlib.Core.List.{List, [], _∷_}
 use lib.ListN.{length, set}
 use Rattle.lowering.specs.Lowering.{Lent, lent}
-use Rattle.state_words.specs.Words.{edgesWord, dispatchesWord, badsWord, stateWords, stateIn}
+use Rattle.state.specs.Words.{edgesWord, dispatchesWord, badsWord, stateWords, stateIn}
 use Rattle.lowering.specs.Words.{Given, loweringWords}
 use Rattle.lowering.specs.All.{LowerCall}
 use Rattle.join.specs.Refusal.{joinLent, JoinInput}

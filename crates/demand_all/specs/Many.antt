@@ -4,7 +4,7 @@ use mathlib.Core.Path.{_≡_}
 use mathlib.Core.Bool.{true, false}
 use mathlib.Core.List.{List, [], _∷_}
 use lib.Dec.{eqb}
-use Rattle.lowering_refusals.specs.declared.State.{State}
+use Rattle.state.specs.declared.State.{State}
 use Rattle.lowering.specs.Lowering.{Lent, lowering}
 use Rattle.lowering.specs.All.{LowerCall, loweringOn}
 use Rattle.demand.specs.Calls.{Held, Request, Call, lower, run}

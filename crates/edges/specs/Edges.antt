@@ -55,24 +55,24 @@ edgeCount Ecall = 1
 
 -- "An address sum wraps at 2^64"; an instruction has 4 bytes
 abbrev pub target : ℕ → ℕ → ℕ
-target pc offset = (pc + offset) % 2 ^ 64
+target address offset = (address + offset) % 2 ^ 64
 
 abbrev pub instructionSize : ℕ
 instructionSize = 4
 
 -- the edge of an instruction that has no condition
 abbrev pub oneEdge : List ℕ → ℕ → ℕ → ℕ → ℕ → List ℕ
-oneEdge es n to pc origin = putRecord edgeStride es n (edge to pc origin noCondition)
+oneEdge es n to address origin = putRecord edgeStride es n (edge to address origin noCondition)
 
 -- "Regular kinds: one edge to the next address; Jal: one regular edge to its target; Ecall: one syscall edge to the next. Branch: the taken
 -- edge first, then the other, each with its condition. Jalr: [..] no edge."
 abbrev pub edgesAfter : List ℕ → ℕ → Class → ℕ → ℕ → Outcome ℕ → List ℕ
-edgesAfter es n Plain pc imm o = oneEdge es n (target pc instructionSize) pc regularOrigin
-edgesAfter es n Access pc imm o = oneEdge es n (target pc instructionSize) pc regularOrigin
-edgesAfter es n Addi pc imm o = oneEdge es n (target pc instructionSize) pc regularOrigin
-edgesAfter es n Branch pc imm o =
-    putRecord edgeStride (putRecord edgeStride es n (edge (target pc imm) pc branchOrigin (takenCondition o))) (n + 1)
-    (edge (target pc instructionSize) pc branchOrigin (otherCondition o))
-edgesAfter es n Jal pc imm o = oneEdge es n (target pc imm) pc regularOrigin
-edgesAfter es n Jalr pc imm o = es
-edgesAfter es n Ecall pc imm o = oneEdge es n (target pc instructionSize) pc syscallOrigin
+edgesAfter es n Plain address imm o = oneEdge es n (target address instructionSize) address regularOrigin
+edgesAfter es n Access address imm o = oneEdge es n (target address instructionSize) address regularOrigin
+edgesAfter es n Addi address imm o = oneEdge es n (target address instructionSize) address regularOrigin
+edgesAfter es n Branch address imm o =
+    putRecord edgeStride (putRecord edgeStride es n (edge (target address imm) address branchOrigin (takenCondition o))) (n + 1)
+    (edge (target address instructionSize) address branchOrigin (otherCondition o))
+edgesAfter es n Jal address imm o = oneEdge es n (target address imm) address regularOrigin
+edgesAfter es n Jalr address imm o = es
+edgesAfter es n Ecall address imm o = oneEdge es n (target address instructionSize) address syscallOrigin

@@ -1,6 +1,11 @@
 // In-edges: as a record, and as numbers in a slice that the host lends. Each put is total: where the slice holds no further edge it changes
 // nothing.
+mod dispatches;
+
 use btor2::NodeRef;
+pub use dispatches::DISPATCH;
+pub use dispatches::go_to_anywhere;
+pub use dispatches::put_place;
 use models::Outcome;
 use riscv::Class;
 ghost use mathlib.Core.Path.{_≡_};
@@ -51,42 +56,49 @@ pub fn go_to_instructions(
     edges: &mut [u64],
     count: usize,
     class: Class,
-    pc: u64,
+    address: u64,
     imm: u64,
     outcome: Outcome,
 )
-    ensures { λ _. ⌜ now (edges .exit) ≡ edgesAfter (now (edges .entry)) count class pc imm (outcomeOf outcome) ⌝ }
+    ensures { λ _. ⌜ now (edges .exit) ≡ edgesAfter (now (edges .entry)) count class address imm (outcomeOf outcome) ⌝ }
 {
-    let next = std::num::wrapping_add_u64(pc, 4);
-    let target = std::num::wrapping_add_u64(pc, imm);
+    let next = std::num::wrapping_add_u64(address, 4);
+    let target = std::num::wrapping_add_u64(address, imm);
     match class {
-        Class::Plain => put_edge(edges, count, next, pc, REGULAR, NO_CONDITION),
-        Class::Access => put_edge(edges, count, next, pc, REGULAR, NO_CONDITION),
-        Class::Addi => put_edge(edges, count, next, pc, REGULAR, NO_CONDITION),
-        Class::Branch => put_branch(edges, count, target, next, pc, outcome),
-        Class::Jal => put_edge(edges, count, target, pc, REGULAR, NO_CONDITION),
+        Class::Plain => put_edge(edges, count, next, address, REGULAR, NO_CONDITION),
+        Class::Access => put_edge(edges, count, next, address, REGULAR, NO_CONDITION),
+        Class::Addi => put_edge(edges, count, next, address, REGULAR, NO_CONDITION),
+        Class::Branch => put_branch(edges, count, target, next, address, outcome),
+        Class::Jal => put_edge(edges, count, target, address, REGULAR, NO_CONDITION),
         Class::Jalr => {}
-        Class::Ecall => put_edge(edges, count, next, pc, SYSCALL, NO_CONDITION),
+        Class::Ecall => put_edge(edges, count, next, address, SYSCALL, NO_CONDITION),
     }
 }
 
 // The taken edge first, then the other.
-fn put_branch(edges: &mut [u64], count: usize, target: u64, next: u64, pc: u64, outcome: Outcome)
-    ensures { λ _. ⌜ now (edges .exit) ≡ putRecord 4 (putRecord 4 (now (edges .entry)) count (edge target pc 1 (takenCondition (outcomeOf outcome)))) (count + 1) (edge next pc 1 (otherCondition (outcomeOf outcome))) ⌝ }
+fn put_branch(
+    edges: &mut [u64],
+    count: usize,
+    target: u64,
+    next: u64,
+    address: u64,
+    outcome: Outcome,
+)
+    ensures { λ _. ⌜ now (edges .exit) ≡ putRecord 4 (putRecord 4 (now (edges .entry)) count (edge target address 1 (takenCondition (outcomeOf outcome)))) (count + 1) (edge next address 1 (otherCondition (outcomeOf outcome))) ⌝ }
 {
     let condition = taken_condition(outcome);
     let otherwise = other_condition(outcome);
-    put_edge(edges, count, target, pc, BRANCH, condition);
-    put_second(edges, count, next, pc, otherwise);
+    put_edge(edges, count, target, address, BRANCH, condition);
+    put_second(edges, count, next, address, otherwise);
 }
 
-fn put_second(edges: &mut [u64], count: usize, to: u64, pc: u64, condition: u64)
-    ensures { λ _. ⌜ now (edges .exit) ≡ putRecord 4 (now (edges .entry)) (count + 1) (edge to pc 1 condition) ⌝ }
+fn put_second(edges: &mut [u64], count: usize, to: u64, address: u64, condition: u64)
+    ensures { λ _. ⌜ now (edges .exit) ≡ putRecord 4 (now (edges .entry)) (count + 1) (edge to address 1 condition) ⌝ }
 {
     if count >= edges.len() {
         return;
     }
-    put_edge(edges, count + 1, to, pc, BRANCH, condition);
+    put_edge(edges, count + 1, to, address, BRANCH, condition);
 }
 
 fn taken_condition(outcome: Outcome) -> u64

@@ -9,18 +9,18 @@
 use btor2::NodeRef;
 use btor2_list::STRIDE;
 use builder::Tally;
-use case_state::read_counts;
-use case_state::read_role;
-use decimal_text::read_decimal;
-use dispatches::DISPATCH;
+use cases::read_counts;
+use cases::read_decimal;
+use cases::read_role;
+use edges::DISPATCH;
 use edges::InEdge;
 use libc::STDIN_FILENO;
 use libc::STDOUT_FILENO;
 use lowering::Lowered;
-use lowering_refusals::Counts;
-use lowering_refusals::State;
 use riscv::Instruction;
-use roles::ROLES;
+use state::Counts;
+use state::ROLES;
+use state::State;
 ghost use Prim.Native.Nat.{_≤_};
 
 const RECORDS: usize = 5;

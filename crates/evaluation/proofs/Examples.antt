@@ -15,7 +15,7 @@ use Rattle.btor2_list.specs.Node.{lineOf, opOf, noName}
 use Rattle.btor2_list.specs.Records.{recordsIn, firstGiven}
 use Rattle.btor2_list.specs.View.{view}
 use Rattle.list_check.specs.Lines.{some}
-use Rattle.operand_check.specs.Broken.{opBroken}
+use Rattle.list_check.specs.Broken.{opBroken}
 use Rattle.evaluation.specs.declared.Evaluated.{Evaluated}
 use Rattle.evaluation.specs.declared.Evaluated.the-variants.{Refused, Value}
 use Rattle.evaluation.specs.Evaluation.{afterValue, one, both, lookOf, looksOf, looks, unfit, evaluatedWithin}

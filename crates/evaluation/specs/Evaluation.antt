@@ -17,8 +17,8 @@ use Rattle.btor2.specs.Value.{Env, ofSort, binary}
 use Rattle.btor2.specs.Value as Val
 use Rattle.btor2_list.specs.View.{view}
 use Rattle.list_check.specs.Lines.{ops, opAt}
-use Rattle.operand_check.specs.Broken.{brokenWords}
-use Rattle.given_values.specs.Given.{givenEnv}
+use Rattle.list_check.specs.Broken.{brokenWords}
+use Rattle.evaluation.specs.Given.{givenEnv}
 use Rattle.evaluation.specs.declared.Evaluated.{Evaluated}
 use Rattle.evaluation.specs.declared.Evaluated.the-variants.{Refused, Value}
 

@@ -23,9 +23,9 @@ use Rattle.btor2_list.specs.View.{view}
 use Rattle.btor2_list.specs.Look.{seenAs, lookAt}
 use Rattle.list_check.specs.Lines.{ops, some}
 use Rattle.list_check.proofs.Formed.{op-at, ops-length}
-use Rattle.operand_check.specs.Broken.{lineBroken, brokenWords}
+use Rattle.list_check.specs.Broken.{lineBroken, brokenWords}
 use Rattle.sort_check.proofs.Marks.{sortSeen}
-use Rattle.given_values.specs.Given.{givenEnv}
+use Rattle.evaluation.specs.Given.{givenEnv}
 use Rattle.evaluation.specs.declared.Evaluated.{Evaluated}
 use Rattle.evaluation.specs.declared.Evaluated.the-variants.{Refused, Value}
 use Rattle.evaluation.specs.Evaluation.{benchLines, unfitAsked, mostVisits, Looks, looksOf, noLooks, looks, looksAt, unfit, evaluatedWithin, evaluated}

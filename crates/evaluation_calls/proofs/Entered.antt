@@ -20,7 +20,7 @@ use Rattle.btor2_list.specs.View.{view}
 use Rattle.list_check.specs.Lines.{ops}
 use Rattle.list_check.proofs.Formed.{ops-length}
 use Rattle.sort_check.specs.Marks.{markAt}
-use Rattle.given_values.specs.Given.{givenEnv}
+use Rattle.evaluation.specs.Given.{givenEnv}
 use Rattle.evaluation.specs.declared.Evaluated.{Evaluated}
 use Rattle.evaluation.specs.declared.Evaluated.the-variants.{Refused, Value}
 use Rattle.evaluation.specs.Evaluation.{illSorted, tooManyVisits, mostVisits, Looks, lookOf, visit, looksOf, noLooks, looks, looksAt}

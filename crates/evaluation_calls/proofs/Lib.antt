@@ -3,3 +3,4 @@ pub mod Parts
 pub mod Entered
 pub mod Steps
 pub mod Answer
+pub mod Halves

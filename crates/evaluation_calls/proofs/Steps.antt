@@ -23,12 +23,12 @@ use Rattle.btor2.specs.Op.{Bin, add, sub, mul, udiv, sdiv, urem, sll, srl, ult,
 use Rattle.btor2.specs.SortRule.{is, hasSort, bitOrWord, rule}
 use Rattle.btor2.specs.Value.{number, array, ofSort, binary}
 use Rattle.btor2_list.specs.Record.{capacity}
-use Rattle.line_operator.specs.declared.Operator.{Operator}
-use Rattle.line_operator.specs.declared.Operator.the-variants.{Const, Read, Write, Binary, Ext, Ite, Eq, And, Or, Not, State, StateInit, Next, Input, Bad, Unknown}
-use Rattle.line_operator.proofs.Operator.{the-type}
-use Rattle.line_operator.specs.Operator.{binFrom, opFrom}
+use Rattle.btor2_list.specs.declared.operator.LineOperator.{LineOperator}
+use Rattle.btor2_list.specs.declared.operator.LineOperator.the-variants.{Const, Read, Write, Binary, Ext, Ite, Eq, And, Or, Not, State, StateInit, Next, Input, Bad, Unknown}
+use Rattle.btor2_list.proofs.operator.LineOperator.{the-type}
+use Rattle.btor2_list.specs.Operator.{binFrom, opFrom}
 use Rattle.sort_check.specs.Marks.{markAt}
-use Rattle.given_values.specs.Given.{givenEnv, givenValue, givenCell}
+use Rattle.evaluation.specs.Given.{givenEnv, givenValue, givenCell}
 use Rattle.evaluation.specs.declared.Evaluated.{Evaluated}
 use Rattle.evaluation.specs.declared.Evaluated.the-variants.{Refused, Value}
 use Rattle.evaluation_calls.specs.declared.Pair.{Pair}
@@ -51,7 +51,7 @@ pub record Covers (N A : Evaluated) (at : ℕ) (w m : ℕ → Evaluated) : Type 
   pub is : N ≡ afterValue A (λ x k. cond (eqb at x) (w k) (m k))
 
 -- N is f of two values
-pub record Joins (N : Evaluated) (f : ℕ → ℕ → ℕ) (a b : ℕ → Evaluated) (n : ℕ) : Type 0 where
+pub record JoinsValues (N : Evaluated) (f : ℕ → ℕ → ℕ) (a b : ℕ → Evaluated) (n : ℕ) : Type 0 where
   pub is : N ≡ afterValue (a n) (λ x k. afterValue (b k) (λ y m. Value (f x y) m))
 
 pub refused : {N A X : Evaluated} {f : ℕ → ℕ → Evaluated} {r : ℕ} → Follows N A f → X ≡ A → X ≡ Refused r → Refused r ≡ N
@@ -116,12 +116,12 @@ finished f (Value x k) b = go (b k)
     go (Refused r) = refl
     go (Value y m) = refl
 
-pub pair-refused : {N : Evaluated} {f : ℕ → ℕ → ℕ} {a b : ℕ → Evaluated} {n r : ℕ} {P : Pair} → Joins N f a b n → P ≡ pairOf (a n) b → P ≡ PairRefused r → Refused r ≡ N
+pub pair-refused : {N : Evaluated} {f : ℕ → ℕ → ℕ} {a b : ℕ → Evaluated} {n r : ℕ} {P : Pair} → JoinsValues N f a b n → P ≡ pairOf (a n) b → P ≡ PairRefused r → Refused r ≡ N
 unfolding finish
 pair-refused {N} {f} {a} {b} {n} {r} {P} e p q = sym (e .is ∙ finished f (a n) b ∙ ap (finish f) (sym p ∙ q))
 
 pub pair-values : {N : Evaluated} {f : ℕ → ℕ → ℕ} {a b : ℕ → Evaluated} {n x y z k : ℕ} {P : Pair}
-    → Joins N f a b n → P ≡ pairOf (a n) b → P ≡ Values x y k → z ≡ f x y → Value z k ≡ N
+    → JoinsValues N f a b n → P ≡ pairOf (a n) b → P ≡ Values x y k → z ≡ f x y → Value z k ≡ N
 unfolding finish
 pair-values {N} {f} {a} {b} {n} {x} {y} {z} {k} {P} e p q w = ap (λ (i : ℕ). Value i k) w ∙ sym (e .is ∙ finished f (a n) b ∙ ap (finish f) (sym p ∙ q))
 
@@ -181,7 +181,7 @@ module _ (ws vs ms : List ℕ) (p v : ℕ) (held : p < capacity (length ws)) (r 
   pub counted : r ≡ 0 → v < mostVisits
   counted z = by-visit (λ l e. absurd (omega arith)) (λ l b e. l) (λ l b e. l)
 
-  pub enter : (o : Operator) → (r ≡ 0 → opFrom o ≡ saidAt ws p) → r ≡ 0 → {o′ : Operator} → o ≡ o′ → Entered ws vs ms p v (opFrom o′)
+  pub enter : (o : LineOperator) → (r ≡ 0 → opFrom o ≡ saidAt ws p) → r ≡ 0 → {o′ : LineOperator} → o ≡ o′ → Entered ws vs ms p v (opFrom o′)
   unfolding numFrom cellFrom
   enter o said z {o′} q =
       let says : saidAt ws p ≡ opFrom o′ = sym (said z) ∙ ap opFrom q in
@@ -328,19 +328,19 @@ module _ {ws vs ms : List ℕ} {p v : ℕ} where
   unfolding lookOf mapOp numFrom cellFrom
   of-read e = record { is = e .num }
 
-  pub of-bin : {o : Bin} {a b : ℕ} → Entered ws vs ms p v (bin o a b) → Joins (numFrom ws vs ms p v) (binary o) (numFrom ws vs ms a) (numFrom ws vs ms b) (v + 1)
+  pub of-bin : {o : Bin} {a b : ℕ} → Entered ws vs ms p v (bin o a b) → JoinsValues (numFrom ws vs ms p v) (binary o) (numFrom ws vs ms a) (numFrom ws vs ms b) (v + 1)
   unfolding lookOf mapOp both numFrom
   of-bin e = record { is = e .num }
 
-  pub of-eq : {a b : ℕ} → Entered ws vs ms p v (eq a b) → Joins (numFrom ws vs ms p v) bvcomp (numFrom ws vs ms a) (numFrom ws vs ms b) (v + 1)
+  pub of-eq : {a b : ℕ} → Entered ws vs ms p v (eq a b) → JoinsValues (numFrom ws vs ms p v) bvcomp (numFrom ws vs ms a) (numFrom ws vs ms b) (v + 1)
   unfolding lookOf mapOp both numFrom
   of-eq e = record { is = e .num }
 
-  pub of-and : {s : NodeType} {a b : ℕ} → Entered ws vs ms p v (and s a b) → Joins (numFrom ws vs ms p v) bvand (numFrom ws vs ms a) (numFrom ws vs ms b) (v + 1)
+  pub of-and : {s : NodeType} {a b : ℕ} → Entered ws vs ms p v (and s a b) → JoinsValues (numFrom ws vs ms p v) bvand (numFrom ws vs ms a) (numFrom ws vs ms b) (v + 1)
   unfolding lookOf mapOp both numFrom
   of-and e = record { is = e .num }
 
-  pub of-or : {s : NodeType} {a b : ℕ} → Entered ws vs ms p v (or s a b) → Joins (numFrom ws vs ms p v) bvor (numFrom ws vs ms a) (numFrom ws vs ms b) (v + 1)
+  pub of-or : {s : NodeType} {a b : ℕ} → Entered ws vs ms p v (or s a b) → JoinsValues (numFrom ws vs ms p v) bvor (numFrom ws vs ms a) (numFrom ws vs ms b) (v + 1)
   unfolding lookOf mapOp both numFrom
   of-or e = record { is = e .num }
 
@@ -402,7 +402,7 @@ module _ {ws vs ms : List ℕ} {p v : ℕ} where
 
   -- ---- the kinds that are left
 
-  pub no-word : (o : Operator) → OneOf (2 ∷ 6 ∷ 12 ∷ 14 ∷ 15 ∷ []) (tagOf the-type o) → Entered ws vs ms p v (opFrom o) → wordSort (carried (saidAt ws p)) ≡ true → Refused illSorted ≡ numFrom ws vs ms p v
+  pub no-word : (o : LineOperator) → OneOf (2 ∷ 6 ∷ 12 ∷ 14 ∷ 15 ∷ []) (tagOf the-type o) → Entered ws vs ms p v (opFrom o) → wordSort (carried (saidAt ws p)) ≡ true → Refused illSorted ≡ numFrom ws vs ms p v
   unfolding carried
   no-word (Write m a w) h e t = absurd (true≢false (sym (of-sort wordSort e t)))
   no-word (Next s a b) h e t = absurd (true≢false (sym (of-sort wordSort e t)))
@@ -421,7 +421,7 @@ module _ {ws vs ms : List ℕ} {p v : ℕ} where
   no-word (StateInit s a m) h e t = absurd (miss (2 ∷ 6 ∷ 12 ∷ 14 ∷ 15 ∷ []) 11 tt h)
   no-word (Input s m) h e t = absurd (miss (2 ∷ 6 ∷ 12 ∷ 14 ∷ 15 ∷ []) 13 tt h)
 
-  pub no-bit : (o : Operator) → OneOf (1 ∷ 2 ∷ 4 ∷ 12 ∷ 14 ∷ 15 ∷ []) (tagOf the-type o) → Entered ws vs ms p v (opFrom o) → hasSort Bit (carried (saidAt ws p)) ≡ true → Refused illSorted ≡ numFrom ws vs ms p v
+  pub no-bit : (o : LineOperator) → OneOf (1 ∷ 2 ∷ 4 ∷ 12 ∷ 14 ∷ 15 ∷ []) (tagOf the-type o) → Entered ws vs ms p v (opFrom o) → hasSort Bit (carried (saidAt ws p)) ≡ true → Refused illSorted ≡ numFrom ws vs ms p v
   unfolding carried
   no-bit (Write m a w) h e t = absurd (true≢false (sym (of-sort (hasSort Bit) e t)))
   no-bit (Next s a b) h e t = absurd (true≢false (sym (of-sort (hasSort Bit) e t)))
@@ -440,7 +440,7 @@ module _ {ws vs ms : List ℕ} {p v : ℕ} where
   no-bit (StateInit s a m) h e t = absurd (miss (1 ∷ 2 ∷ 4 ∷ 12 ∷ 14 ∷ 15 ∷ []) 11 tt h)
   no-bit (Input s m) h e t = absurd (miss (1 ∷ 2 ∷ 4 ∷ 12 ∷ 14 ∷ 15 ∷ []) 13 tt h)
 
-  pub no-cell : (o : Operator) (a : ℕ) → OneOf (0 ∷ 1 ∷ 3 ∷ 4 ∷ 6 ∷ 7 ∷ 8 ∷ 9 ∷ 12 ∷ 14 ∷ 15 ∷ []) (tagOf the-type o) → Entered ws vs ms p v (opFrom o) → hasSort Memory (carried (saidAt ws p)) ≡ true
+  pub no-cell : (o : LineOperator) (a : ℕ) → OneOf (0 ∷ 1 ∷ 3 ∷ 4 ∷ 6 ∷ 7 ∷ 8 ∷ 9 ∷ 12 ∷ 14 ∷ 15 ∷ []) (tagOf the-type o) → Entered ws vs ms p v (opFrom o) → hasSort Memory (carried (saidAt ws p)) ≡ true
       → Refused illSorted ≡ cellFrom ws vs ms p a v
   unfolding carried
   no-cell (Const s n) a h e t = absurd (true≢false (sym (e .rules) ∙ ap (λ (r : NodeType). B.not (sameSort r Memory)) (memory s (of-sort (hasSort Memory) e t))))

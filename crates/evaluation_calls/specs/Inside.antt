@@ -22,7 +22,7 @@ use Rattle.evaluation.specs.declared.Evaluated.{Evaluated}
 use Rattle.evaluation.specs.declared.Evaluated.the-variants.{Refused, Value}
 use Rattle.evaluation_calls.specs.declared.Pair.{Pair}
 use Rattle.evaluation_calls.specs.declared.Pair.the-variants.{Values, Refused as PairRefused}
-use Rattle.given_values.specs.Given.{givenEnv}
+use Rattle.evaluation.specs.Given.{givenEnv}
 use Rattle.evaluation.specs.Evaluation.{illSorted, tooManyVisits, mostVisits, looksAt}
 
 -- what the record at place p says

@@ -1,22 +1,24 @@
 // The bench: the value of a line on given values, with the visits that it takes.
+mod operators;
+
 use btor2::NodeRef;
 use btor2::NodeType;
 use btor2_list::Found;
+use btor2_list::LineOperator;
 use btor2_list::Looked;
 use btor2_list::get;
 use btor2_list::look;
+use btor2_list::operator_of;
 use evaluation::Evaluated;
-use given_values::given;
-use given_values::given_cell;
-use line_operator::Operator;
-use line_operator::operator_of;
-use operand_check::broken;
-use operator_value::binary;
-use operator_value::bit_not;
-use operator_value::conjunction;
-use operator_value::disjunction;
-use operator_value::equal;
-use operator_value::word_not;
+use evaluation::given;
+use evaluation::given_cell;
+use list_check::broken;
+use operators::binary;
+use operators::bit_not;
+use operators::conjunction;
+use operators::disjunction;
+use operators::equal;
+use operators::word_not;
 use sort_check::is_of;
 use sort_check::meets_rule;
 use sort_check::same;
@@ -25,7 +27,7 @@ ghost use Prim.Native.Nat.{_<_};
 ghost use lib.ListN.{length};
 ghost use Rattle.btor2.specs.declared.NodeType.the-variants.{Bit, Memory};
 ghost use Rattle.btor2.specs.SortRule.{hasSort};
-ghost use Rattle.line_operator.specs.Operator.{opFrom};
+ghost use Rattle.btor2_list.specs.Operator.{opFrom};
 ghost use Rattle.btor2_list.specs.Record.{capacity};
 ghost use Rattle.evaluation.specs.Evaluation.{evaluated};
 ghost use Rattle.evaluation_calls.specs.Inside.{numFrom, cellFrom, pairOf, saidAt, visitRefusal, wordSort, Visitable, EqRight};
@@ -88,23 +90,23 @@ fn eval_word(list: &[u64], values: &[u64], memory: &[u64], place: NodeRef, visit
     let n = visits + 1;
     let o = visited.line;
     match o {
-        Operator::Const(_, x) => Evaluated::Value(x, n),
-        Operator::Read(m, a) => match eval_word(list, values, memory, a, n) {
+        LineOperator::Const(_, x) => Evaluated::Value(x, n),
+        LineOperator::Read(m, a) => match eval_word(list, values, memory, a, n) {
             Evaluated::Refused(r) => Evaluated::Refused(r),
             Evaluated::Value(x, k) => cell(list, values, memory, m, x, k),
         },
-        Operator::Binary(f, a, b) => match words(list, values, memory, a, b, n) {
+        LineOperator::Binary(f, a, b) => match words(list, values, memory, a, b, n) {
             Pair::Refused(r) => Evaluated::Refused(r),
             Pair::Values(x, y, k) => Evaluated::Value(binary(f, x, y), k),
         },
-        Operator::Ext(from, a) => {
+        LineOperator::Ext(from, a) => {
             if same(NodeType::Bit, from) {
                 eval_bit(list, values, memory, a, n)
             } else {
                 eval_word(list, values, memory, a, n)
             }
         }
-        Operator::Ite(_, c, a, b) => match eval_bit(list, values, memory, c, n) {
+        LineOperator::Ite(_, c, a, b) => match eval_bit(list, values, memory, c, n) {
             Evaluated::Refused(r) => Evaluated::Refused(r),
             Evaluated::Value(x, k) => {
                 if x == 1 {
@@ -114,21 +116,21 @@ fn eval_word(list: &[u64], values: &[u64], memory: &[u64], place: NodeRef, visit
                 }
             }
         },
-        Operator::And(_, a, b) => match words(list, values, memory, a, b, n) {
+        LineOperator::And(_, a, b) => match words(list, values, memory, a, b, n) {
             Pair::Refused(r) => Evaluated::Refused(r),
             Pair::Values(x, y, k) => Evaluated::Value(conjunction(x, y), k),
         },
-        Operator::Or(_, a, b) => match words(list, values, memory, a, b, n) {
+        LineOperator::Or(_, a, b) => match words(list, values, memory, a, b, n) {
             Pair::Refused(r) => Evaluated::Refused(r),
             Pair::Values(x, y, k) => Evaluated::Value(disjunction(x, y), k),
         },
-        Operator::Not(_, a) => match eval_word(list, values, memory, a, n) {
+        LineOperator::Not(_, a) => match eval_word(list, values, memory, a, n) {
             Evaluated::Refused(r) => Evaluated::Refused(r),
             Evaluated::Value(x, k) => Evaluated::Value(word_not(x), k),
         },
-        Operator::State(s, _) => Evaluated::Value(given(values, place, s), n),
-        Operator::StateInit(s, _, _) => Evaluated::Value(given(values, place, s), n),
-        Operator::Input(s, _) => Evaluated::Value(given(values, place, s), n),
+        LineOperator::State(s, _) => Evaluated::Value(given(values, place, s), n),
+        LineOperator::StateInit(s, _, _) => Evaluated::Value(given(values, place, s), n),
+        LineOperator::Input(s, _) => Evaluated::Value(given(values, place, s), n),
         _ => Evaluated::Refused(ILL_SORTED),
     }
 }
@@ -145,12 +147,12 @@ fn eval_bit(list: &[u64], values: &[u64], memory: &[u64], place: NodeRef, visits
     let n = visits + 1;
     let o = visited.line;
     match o {
-        Operator::Const(_, x) => Evaluated::Value(x, n),
-        Operator::Binary(f, a, b) => match words(list, values, memory, a, b, n) {
+        LineOperator::Const(_, x) => Evaluated::Value(x, n),
+        LineOperator::Binary(f, a, b) => match words(list, values, memory, a, b, n) {
             Pair::Refused(r) => Evaluated::Refused(r),
             Pair::Values(x, y, k) => Evaluated::Value(binary(f, x, y), k),
         },
-        Operator::Ite(_, c, a, b) => match eval_bit(list, values, memory, c, n) {
+        LineOperator::Ite(_, c, a, b) => match eval_bit(list, values, memory, c, n) {
             Evaluated::Refused(r) => Evaluated::Refused(r),
             Evaluated::Value(x, k) => {
                 if x == 1 {
@@ -160,25 +162,25 @@ fn eval_bit(list: &[u64], values: &[u64], memory: &[u64], place: NodeRef, visits
                 }
             }
         },
-        Operator::Eq(a, b) => match alike(list, values, memory, place, a, b, n) {
+        LineOperator::Eq(a, b) => match alike(list, values, memory, place, a, b, n) {
             Pair::Refused(r) => Evaluated::Refused(r),
             Pair::Values(x, y, k) => Evaluated::Value(equal(x, y), k),
         },
-        Operator::And(_, a, b) => match bits(list, values, memory, a, b, n) {
+        LineOperator::And(_, a, b) => match bits(list, values, memory, a, b, n) {
             Pair::Refused(r) => Evaluated::Refused(r),
             Pair::Values(x, y, k) => Evaluated::Value(conjunction(x, y), k),
         },
-        Operator::Or(_, a, b) => match bits(list, values, memory, a, b, n) {
+        LineOperator::Or(_, a, b) => match bits(list, values, memory, a, b, n) {
             Pair::Refused(r) => Evaluated::Refused(r),
             Pair::Values(x, y, k) => Evaluated::Value(disjunction(x, y), k),
         },
-        Operator::Not(_, a) => match eval_bit(list, values, memory, a, n) {
+        LineOperator::Not(_, a) => match eval_bit(list, values, memory, a, n) {
             Evaluated::Refused(r) => Evaluated::Refused(r),
             Evaluated::Value(x, k) => Evaluated::Value(bit_not(x), k),
         },
-        Operator::State(s, _) => Evaluated::Value(given(values, place, s), n),
-        Operator::StateInit(s, _, _) => Evaluated::Value(given(values, place, s), n),
-        Operator::Input(s, _) => Evaluated::Value(given(values, place, s), n),
+        LineOperator::State(s, _) => Evaluated::Value(given(values, place, s), n),
+        LineOperator::StateInit(s, _, _) => Evaluated::Value(given(values, place, s), n),
+        LineOperator::Input(s, _) => Evaluated::Value(given(values, place, s), n),
         _ => Evaluated::Refused(ILL_SORTED),
     }
 }
@@ -202,7 +204,7 @@ fn cell(
     let n = visits + 1;
     let o = visited.line;
     match o {
-        Operator::Write(m, a, v) => match eval_word(list, values, memory, a, n) {
+        LineOperator::Write(m, a, v) => match eval_word(list, values, memory, a, n) {
             Evaluated::Refused(r) => Evaluated::Refused(r),
             Evaluated::Value(x, k) => {
                 if address == x {
@@ -212,7 +214,7 @@ fn cell(
                 }
             }
         },
-        Operator::Ite(_, c, a, b) => match eval_bit(list, values, memory, c, n) {
+        LineOperator::Ite(_, c, a, b) => match eval_bit(list, values, memory, c, n) {
             Evaluated::Refused(r) => Evaluated::Refused(r),
             Evaluated::Value(x, k) => {
                 if x == 1 {
@@ -222,9 +224,9 @@ fn cell(
                 }
             }
         },
-        Operator::State(_, _) => Evaluated::Value(given_cell(memory, place, address), n),
-        Operator::StateInit(_, _, _) => Evaluated::Value(given_cell(memory, place, address), n),
-        Operator::Input(_, _) => Evaluated::Value(given_cell(memory, place, address), n),
+        LineOperator::State(_, _) => Evaluated::Value(given_cell(memory, place, address), n),
+        LineOperator::StateInit(_, _, _) => Evaluated::Value(given_cell(memory, place, address), n),
+        LineOperator::Input(_, _) => Evaluated::Value(given_cell(memory, place, address), n),
         _ => Evaluated::Refused(ILL_SORTED),
     }
 }
@@ -279,7 +281,7 @@ fn alike(
 // A visit: the number of its refusal, or 0 and what the line says.
 struct Visited {
     refusal: u64,
-    line: Operator,
+    line: LineOperator,
 }
 
 // A visit of the line at a place, after this many others: the limit is tested before the line is looked at, then its sort rule.
@@ -303,17 +305,17 @@ fn refused_visit(refusal: u64) -> Visited
 {
     Visited {
         refusal,
-        line: Operator::Unknown,
+        line: LineOperator::Unknown,
     }
 }
 
 // What the line at a place says.
-fn operator_at(list: &[u64], place: NodeRef) -> Operator
+fn operator_at(list: &[u64], place: NodeRef) -> LineOperator
     requires { ⌜ place .0 < capacity (length (now list)) ⌝ }
     ensures { λ r. ⌜ opFrom r ≡ saidAt (now (list .entry)) (place .0) ⌝ }
 {
     match get(list, place) {
         Found::Line(line) => operator_of(line),
-        Found::Outside => Operator::Unknown,
+        Found::Outside => LineOperator::Unknown,
     }
 }

@@ -10,7 +10,7 @@
 // the count of whole lines in use before it. Words that are no longer in use stay as they are, and command 5 lends them too.
 // Command 5 writes the value and the visits, or `refused` and the number. tools/evaluation_cases.py made the commands and what is to be written.
 use btor2::NodeRef;
-use decimal_text::read_decimal;
+use cases::read_decimal;
 use evaluation::Evaluated;
 use evaluation_calls::evaluate;
 use libc::STDIN_FILENO;

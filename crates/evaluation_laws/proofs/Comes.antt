@@ -23,7 +23,7 @@ use Rattle.btor2.proofs.Op.{mapOp-mapOp}
 use Rattle.btor2.proofs.SortRule.{right-next}
 use Rattle.btor2_list.specs.View.{view}
 use Rattle.list_check.specs.Lines.{ops}
-use Rattle.given_values.specs.Given.{givenEnv}
+use Rattle.evaluation.specs.Given.{givenEnv}
 use Rattle.evaluation.specs.declared.Evaluated.{Evaluated}
 use Rattle.evaluation.specs.declared.Evaluated.the-variants.{Refused, Value}
 use Rattle.evaluation.specs.Evaluation.{afterValue, Looks, one, both, lookOf, tooManyVisits, visit, looksOf, noLooks, looks, looksAt, unfit, evaluatedWithin}

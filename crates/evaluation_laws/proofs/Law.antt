@@ -18,7 +18,7 @@ use Rattle.btor2.specs.Value.{number, store, binary, Env, evalOp, values, value
 use Rattle.btor2.specs.Value as Val
 use Rattle.btor2_list.specs.View.{view}
 use Rattle.list_check.specs.Lines.{ops}
-use Rattle.given_values.specs.Given.{givenEnv}
+use Rattle.evaluation.specs.Given.{givenEnv}
 use Rattle.evaluation.specs.declared.Evaluated.{Evaluated}
 use Rattle.evaluation.specs.declared.Evaluated.the-variants.{Refused, Value}
 use Rattle.evaluation.specs.Evaluation.{afterValue, Look, Looks, one, both, lookOf, illSorted, tooManyVisits, unfitAsked, visit, looksOf, noLooks, looks, looksAt, unfit, evaluatedWithin}

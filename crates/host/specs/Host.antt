@@ -5,10 +5,10 @@ use mathlib.Core.Bool.{cond}
 use mathlib.Core.List.{List}
 use lib.Dec.{ltb}
 use lib.ListN.{length}
-use Rattle.lowering_refusals.specs.declared.Room.{Room}
+use Rattle.state.specs.declared.room.Room.{Room}
 use Rattle.print.specs.Printing.{PrintAnswer, refused, written, printing}
 use Rattle.start.specs.Start.{startRefusal}
-use Rattle.state_words.specs.Words.{stateWords, stateIn}
+use Rattle.state.specs.Words.{stateWords, stateIn}
 use Rattle.evaluation.specs.declared.Evaluated.{Evaluated}
 use Rattle.evaluation.specs.declared.Evaluated.the-variants.{Refused, Value}
 use Rattle.evaluation.specs.Evaluation.{evaluated}

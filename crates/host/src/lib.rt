@@ -2,14 +2,14 @@
 use btor2::NodeRef;
 use evaluation::Evaluated;
 use join::Asked;
-use lowering_refusals::BAD_COUNT;
 use print::Printed;
 use riscv::Instruction;
-use state_words::STATE_WORDS;
+use state::BAD_COUNT;
+use state::STATE_WORDS;
 ghost use mathlib.Core.Path.{_≡_};
 ghost use lib.ListN.{length};
 ghost use Rattle.lowering.specs.Lowering.{lent};
-ghost use Rattle.lowering_refusals.specs.Refusal.{roomOf};
+ghost use Rattle.state.specs.Room.{roomOf};
 ghost use Rattle.lowering.specs.Words.{given, loweringWords};
 ghost use Rattle.lowering.specs.All.{givenAll, loweringAllWords};
 ghost use Rattle.join.specs.Refusal.{joinLent, joinInput};
@@ -167,7 +167,7 @@ pub extern "C" fn lanthanumbat_check_start(
     if state.len() < STATE_WORDS {
         return BAD_COUNT;
     }
-    let given = state_words::state_in(state);
+    let given = state::state_in(state);
     start::check_start(list, host, names, edges, dispatches, bads, given)
 }
 

@@ -11,18 +11,18 @@ use Rattle.btor2.specs.Op.{Op, const, and, eq, ite, state, stateInit, next, car
 use Rattle.btor2_list.specs.Record.{words, recordAt}
 use Rattle.btor2_list.specs.Node.{Node, node, lineOf, opOf, noName}
 use Rattle.btor2_list.specs.View.{view}
-use Rattle.btor2_name.specs.NameBytes.{ourArea}
+use Rattle.btor2_list.specs.NameBytes.{ourArea}
 use Rattle.builder.specs.Append.{appendLine}
 use Rattle.btor2_list.specs.Records.{recordsIn, firstGiven}
-use Rattle.program.specs.Prog.{_>>=_}
-use Rattle.program.specs.Lines.{linesOf}
-use Rattle.roles.specs.Roles.{ref}
-use Rattle.roles_check.specs.RolesFit.{rolesFit}
+use Rattle.builder.specs.Prog.{_>>=_}
+use Rattle.builder.specs.Lines.{linesOf}
+use Rattle.state.specs.Roles.{ref}
+use Rattle.state.specs.RolesFit.{rolesFit}
 use Rattle.text.specs.Ascii.{ascii}
 use Rattle.text.specs.Numeral.{numeral}
-use Rattle.control_flow.specs.FlagName.{flagName}
-use Rattle.control_flow.specs.Listed.{appendListed}
-use Rattle.control_flow.specs.ControlFlow.{controlFlowFromAny, controlFlowFromRegular, controlFlowFromBranch, controlFlowFromEcall, controlFlowFromJalr}
+use Rattle.join.specs.FlagName.{flagName}
+use Rattle.join.specs.Listed.{appendListed}
+use Rattle.join.specs.ControlFlow.{controlFlowFromAny, controlFlowFromRegular, controlFlowFromBranch, controlFlowFromEcall, controlFlowFromJalr}
 use Rattle.join.specs.declared.Asked.{Asked}
 use Rattle.join.specs.declared.JoinHeld.{JoinHeld}
 use Rattle.join.specs.Program.{namesOf, nextsOf, fromEdge, joinEdges, joinDispatches, joinAddress}

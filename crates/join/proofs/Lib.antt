@@ -1,3 +1,5 @@
 pub mod Laws
 pub mod Numbers
 mod Examples
+pub mod Lists
+pub mod FlagName

@@ -2,7 +2,7 @@
 use Prim.Native.Nat.{ℕ, _*_, _/_, _≤_}
 use mathlib.Core.Path.{_≡_, refl}
 use mathlib.Core.Bool.{Bool, true, false, not, _||_}
-use mathlib.Core.List.{List, [], _∷_}
+use mathlib.Core.List.{[], _∷_}
 use native.Mathlib.Omega.{arith}
 use borrow.Author.Tests.{ltb-false}
 use lib.Dec.{ltb}
@@ -11,11 +11,10 @@ use Rattle.bitvec.proofs.Truth.{neither}
 use Rattle.btor2_list.specs.Record.{capacity}
 use Rattle.edges.specs.Edges.{edgeStride, dispatchStride}
 use Rattle.list_check.specs.Lines.{any}
-use Rattle.riscv.specs.Refusal.{first}
-use Rattle.riscv.proofs.First.{hit, miss}
-use Rattle.roles_check.specs.RolesFit.{rolesFit}
+use Rattle.riscv.proofs.First.{Tests, hit, miss, passes}
+use Rattle.state.specs.RolesFit.{rolesFit}
 use Rattle.btor2_list.specs.Limits.{mostLines, mostNid, tallyOut}
-use Rattle.lowering_refusals.proofs.Within.{lines-within}
+use Rattle.state.proofs.Within.{lines-within}
 use Rattle.join.specs.declared.JoinHeld.{JoinHeld}
 use Rattle.join.specs.Given.{flagStride}
 use Rattle.join.specs.Refusal.{JoinLent, JoinInput, edgesOf, dispatchesOf, joinCountsOut, flagsOut, edgeOut, dispatchOut, joinRoomOut, joinRefusal}
@@ -29,9 +28,6 @@ module _ (l : JoinLent) (h : JoinHeld) (g : JoinInput) where
 
   abbrev pub recordsOut : Bool
   recordsOut = any (edgeOut (l .list) lines) (edgesOf g) || any (dispatchOut (l .list) lines) (dispatchesOf g)
-
-  abbrev Tests : Type 0
-  Tests = List (Bool × ℕ)
 
   abbrev from8 : Tests
   from8 = (joinRoomOut l h g, 8) ∷ []
@@ -77,7 +73,7 @@ module _ (l : JoinLent) (h : JoinHeld) (g : JoinInput) where
 
   -- ---- what is passed
 
-  pub record Within : Type 0 where
+  pub record JoinWithin : Type 0 where
     pub most : lines ≤ mostLines
     pub nids : h .state .tally .nid ≤ mostNid
     pub held : lines ≤ capacity (length (l .list))
@@ -87,7 +83,7 @@ module _ (l : JoinLent) (h : JoinHeld) (g : JoinInput) where
     pub flags : g .asked .flags * flagStride ≤ length (g .flags)
     pub sequentials : h .sequentials ≤ length (l .sequentials)
 
-  pub within : joinCountsOut l h g ≡ false → Within
+  pub within : joinCountsOut l h g ≡ false → JoinWithin
   within e =
       let p3 = neither (tallyOut mostNid (capacity (length (l .list))) lines (h .state .tally .nid)) _ e in
       let t = lines-within mostNid (capacity (length (l .list))) lines (h .state .tally .nid) (p3 .0) in
@@ -106,12 +102,8 @@ module _ (l : JoinLent) (h : JoinHeld) (g : JoinInput) where
         sequentials = ltb-false _ _ (p7 .1);
       }
 
-  passes : (t : Bool) (n : ℕ) (ts : Tests) → (n ≡ 0 → ⊥) → first ((t, n) ∷ ts) ≡ 0 → (t ≡ false) × (first ts ≡ 0)
-  passes true n ts z e = absurd (z e)
-  passes false n ts z e = (refl, e)
-
   pub record Passed : Type 0 where
-    pub counts : Within
+    pub counts : JoinWithin
     pub roles : rolesOut ≡ false
     pub flags : flagsOut (l .list) lines g ≡ false
     pub edges : any (edgeOut (l .list) lines) (edgesOf g) ≡ false

@@ -7,8 +7,8 @@ use lib.ListN.{length}
 use lib.Seq.{sets}
 use Rattle.builder.specs.declared.Tally.{Tally}
 use Rattle.builder.specs.Append.{at}
-use Rattle.program.specs.Prog.{Run, exec}
-use Rattle.control_flow.specs.Listed.{Listed, listed, appendListed}
+use Rattle.builder.specs.Prog.{Run, exec}
+use Rattle.join.specs.Listed.{Listed, listed, appendListed}
 use Rattle.join.specs.declared.JoinHeld.{JoinHeld}
 use Rattle.join.specs.Program.{namesOf}
 use Rattle.join.specs.Refusal.{JoinLent, joinLent, JoinInput, edgesOf, joinProgram, joinRefusal}

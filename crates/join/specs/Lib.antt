@@ -4,3 +4,7 @@ pub mod Refusal
 pub mod Join
 pub mod Laws
 pub mod Words
+pub mod FlagName
+pub mod Listed
+pub mod ControlFlow
+pub mod Code

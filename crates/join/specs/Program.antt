@@ -6,9 +6,9 @@ use mathlib.Core.List.{List, [], _∷_, _++_}
 use lib.Dec.{eqb}
 use lib.ListN.{length}
 use Rattle.edges.specs.Edges.{branchOrigin, syscallOrigin}
-use Rattle.program.specs.Prog.{Prog, done, _>>=_}
-use Rattle.control_flow.specs.FlagName.{flagName, nameAt}
-use Rattle.control_flow.specs.ControlFlow.{Bits, Kernel, controlFlowFromRegular, controlFlowFromBranch, controlFlowFromEcall, controlFlowFromJalr}
+use Rattle.builder.specs.Prog.{Prog, done, _>>=_}
+use Rattle.join.specs.FlagName.{flagName, nameAt}
+use Rattle.join.specs.ControlFlow.{Bits, Kernel, controlFlowFromRegular, controlFlowFromBranch, controlFlowFromEcall, controlFlowFromJalr}
 
 -- what is looked at of an edge, and of a dispatch
 pub record Edge (A : Type 0) : Type 0 where

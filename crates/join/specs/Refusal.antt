@@ -11,15 +11,15 @@ use Rattle.btor2_list.specs.Record.{capacity}
 use Rattle.btor2_list.specs.Look.{lookAt}
 use Rattle.edges.specs.Edges.{edgeStride, branchOrigin, syscallOrigin, dispatchStride}
 use Rattle.list_check.specs.Lines.{any}
-use Rattle.program.specs.Prog.{Prog}
-use Rattle.program.specs.Lines.{linesOf, placeAfter}
+use Rattle.builder.specs.Prog.{Prog}
+use Rattle.builder.specs.Lines.{linesOf, placeAfter}
 use Rattle.riscv.specs.Refusal.{first}
-use Rattle.roles.specs.Roles.{role, zeroBit, oneBit, registerNode}
+use Rattle.state.specs.Roles.{role, zeroBit, oneBit, registerNode}
 use Rattle.riscv.specs.Format.{lastRegister}
-use Rattle.roles_check.specs.RolesFit.{valueSort, rolesFit}
-use Rattle.lowering_refusals.specs.declared.State.{State}
+use Rattle.state.specs.RolesFit.{valueSort, rolesFit}
+use Rattle.state.specs.declared.State.{State}
 use Rattle.btor2_list.specs.Limits.{mostLines, mostNid, tallyOut}
-use Rattle.control_flow.specs.ControlFlow.{Bits, Kernel}
+use Rattle.join.specs.ControlFlow.{Bits, Kernel}
 use Rattle.join.specs.declared.Asked.{Asked}
 use Rattle.join.specs.declared.JoinHeld.{JoinHeld}
 use Rattle.join.specs.Program.{Edge, Dispatch, namesOf, nextsOf, joinAddress}

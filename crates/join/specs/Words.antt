@@ -4,7 +4,7 @@ use mathlib.Core.Bool.{cond}
 use mathlib.Core.List.{List}
 use lib.Dec.{ltb}
 use lib.ListN.{length}
-use Rattle.state_words.specs.Words.{stateWords, stateIn, withState}
+use Rattle.state.specs.Words.{stateWords, stateIn, withState}
 use Rattle.join.specs.Refusal.{JoinLent, JoinInput}
 use Rattle.join.specs.Join.{JoinAnswer, joining}
 

@@ -1,6 +1,7 @@
-// One address's edges and dispatches joined into its flag: what a call is given, refuses and gives (specs/). The code is join_calls.
+// One address's edges and dispatches joined into its flag: what a call is given, refuses and gives, and how each edge goes in (specs/). The
+// code is join_calls.
 use btor2::NodeRef;
-use lowering_refusals::State;
+use state::State;
 
 // What passes from call to call: the lowering's state, and how many sequentials are in use.
 pub struct JoinHeld {
@@ -23,4 +24,16 @@ pub struct Joined {
     pub refusal: u64,
     pub flow: NodeRef,
     pub held: JoinHeld,
+}
+
+// The zero and the one bit.
+pub struct Bits {
+    pub zero: NodeRef,
+    pub one: NodeRef,
+}
+
+// The kernel-mode and the kernel-not node.
+pub struct Kernel {
+    pub mode: NodeRef,
+    pub none: NodeRef,
 }

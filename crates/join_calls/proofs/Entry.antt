@@ -14,17 +14,17 @@ use Rattle.btor2_list.specs.Node.{nodeOf}
 use Rattle.btor2_list.specs.declared.Looked.{Looked}
 use Rattle.btor2_list.specs.declared.Looked.the-variants.{Outside}
 use Rattle.btor2_list.specs.Look.{lookAt}
-use Rattle.roles.specs.Roles.{role, zeroBit}
-use Rattle.roles_check.specs.RolesFit.{valueSort, rolesFit}
+use Rattle.state.specs.Roles.{role, zeroBit}
+use Rattle.state.specs.RolesFit.{valueSort, rolesFit}
 use Rattle.btor2_list.specs.Limits.{mostLines}
-use Rattle.state_words.specs.Words.{stateWords, rolesIn, stateOf, stateIn, withState, countsStored}
+use Rattle.state.specs.Words.{stateWords, rolesIn, stateOf, stateIn, withState, countsStored}
 use Rattle.join.specs.declared.JoinHeld.{JoinHeld}
 use Rattle.join.specs.Program.{namesOf, nextsOf}
 use Rattle.join.specs.Refusal.{JoinLent, joinLent, JoinInput, edgesOf, zeroIn, joinCountsOut, joinLineCount, joinRoomOut}
 use Rattle.join.specs.Join.{JoinAnswer, joinAnswer, joining}
 use Rattle.join.specs.Words.{givenJoin, joinBy, joiningWords}
 use Rattle.join.proofs.Laws.{roles-stay}
-use Rattle.join_calls.specs.Steps.{Room}
+use Rattle.join_calls.specs.Steps.{RoomForEdges}
 use Rattle.join_calls.specs.Entry.{joinHeldIn, countsOutBy, begun}
 
 -- 9 asks the lengths alone
@@ -51,7 +51,7 @@ zero-below ws n [] l e = absurd (omega arith)
 zero-below ws n (r ∷ rs) l e = below n (r .0) 0 _ (ltb (r .0) n) (holds ws (r .0)) refl (and-first _ _ e)
 
 -- what passed 8 fits
-pub counts-fit : (l : JoinLent) (h : JoinHeld) (g : JoinInput) → length (l .names) < 2 ^ 64 → length (l .sequentials) < 2 ^ 64 → joinRoomOut l h g ≡ false → Room (begun h (g .asked)) (edgesOf g)
+pub counts-fit : (l : JoinLent) (h : JoinHeld) (g : JoinInput) → length (l .names) < 2 ^ 64 → length (l .sequentials) < 2 ^ 64 → joinRoomOut l h g ≡ false → RoomForEdges (begun h (g .asked)) (edgesOf g)
 unfolding joinRoomOut
 counts-fit l h g a b e =
     let lines = h .state .tally .lines + joinLineCount (h .state) g in

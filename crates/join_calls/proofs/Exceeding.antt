@@ -56,12 +56,12 @@ module _ (f : ℕ → Bool) (l : Left) where
   exceeding-on n k ws d h = rw (records-next edgeStride edgeIn n k ws h, getD-drop (k * 4) ws 1 0, getD-drop (k * 4) ws 2 0) (exceeding-next _ _ d)
 
 -- an edge that does not exceed has room for each of its parts
-pub record Roomy (l : Left) (origin from : ℕ) : Type 0 where
+pub record RoomyEdge (l : Left) (origin from : ℕ) : Type 0 where
   pub lines : edgeLines origin (l .zero) ≤ l .lines
   pub names : length (edgeName origin from) ≤ l .names
   pub sequentials : nextsBy origin ≤ l .sequentials
 
-pub roomy : (l : Left) (origin from : ℕ) → edgeExceeds l origin from ≡ false → Roomy l origin from
+pub roomy : (l : Left) (origin from : ℕ) → edgeExceeds l origin from ≡ false → RoomyEdge l origin from
 roomy l origin from h =
     let p = neither _ _ h in
     let q = neither _ _ (p .1) in

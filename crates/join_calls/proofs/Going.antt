@@ -5,19 +5,19 @@ use mathlib.Core.List.{List, [], _∷_, _++_}
 use native.Mathlib.Omega.{arith}
 use lib.ListN.{length, length-append}
 use lib.Seq.{sets}
-use Rattle.program.specs.Prog.{_>>=_, exec}
-use Rattle.program.proofs.Exec.{chain}
+use Rattle.builder.specs.Prog.{_>>=_, exec}
+use Rattle.builder.proofs.Exec.{chain}
 use Rattle.builder.specs.declared.Made.{Made}
 use Rattle.builder.specs.Append.{at, append}
 use Rattle.builder.specs.Gives.{Gives}
 use Rattle.text.proofs.Laws.{sets-append}
 use Rattle.join_calls.specs.declared.lines.Joining.{Joining}
-use Rattle.control_flow.specs.ControlFlow.{Bits, Kernel, controlFlowFromJalr}
+use Rattle.join.specs.ControlFlow.{Bits, Kernel, controlFlowFromJalr}
 use Rattle.join.specs.Program.{Edge, Dispatch, namesOf, nextsBy, nextsOf, fromEdge, joinEdges, joinDispatches}
 use Rattle.join.specs.Program.{edgeName}
-use Rattle.control_flow.specs.Listed.{appendListed, Lists}
-use Rattle.join_calls.specs.Steps.{joiningStore, Joins, Room, RoomOne}
-use Rattle.control_flow.proofs.Lists.{rest}
+use Rattle.join.specs.Listed.{appendListed, Lists}
+use Rattle.join_calls.specs.Steps.{joiningStore, Joins, RoomForEdges, RoomForEdge}
+use Rattle.join.proofs.Lists.{rest}
 
 module _ (b : Bits ℕ) (k : Kernel ℕ) (flagOf : ℕ → ℕ) where
   -- from the words ws, names and sequentials seq on, the edges xs give what xs₀ give from the start
@@ -31,7 +31,7 @@ module _ (b : Bits ℕ) (k : Kernel ℕ) (flagOf : ℕ → ℕ) where
   begins ws names seq j xs = record { left = refl; texts = refl; named = refl; counted = refl }
 
   module _ {ws names seq : List ℕ} {j : Joining} {ws₀ names₀ seq₀ : List ℕ} {j₀ : Joining} {xs₀ : List (Edge ℕ)} where
-    pub one-of : {x : Edge ℕ} {xs : List (Edge ℕ)} → Going ws names seq j (x ∷ xs) ws₀ names₀ seq₀ j₀ xs₀ → Room j₀ xs₀ → RoomOne j (x .origin) (x .from)
+    pub one-of : {x : Edge ℕ} {xs : List (Edge ℕ)} → Going ws names seq j (x ∷ xs) ws₀ names₀ seq₀ j₀ xs₀ → RoomForEdges j₀ xs₀ → RoomForEdge j (x .origin) (x .from)
     unfolding namesOf nextsOf
     one-of {x} {xs} g r = record {
       names = omega (arith, r .names, g .named, length-append (edgeName (x .origin) (x .from)) (namesOf xs));

@@ -10,20 +10,20 @@ use lib.Dec.{eqb, ltb}
 use lib.ListN.{length, length-append, drop}
 use Rattle.btor2.specs.declared.Name.{Name}
 use Rattle.btor2.specs.declared.NodeType.the-variants.{Bit}
-use Rattle.program.specs.OneLine.{newIte}
-use Rattle.program.specs.Prog.{Prog, done, line, _>>=_}
-use Rattle.program.specs.Lines.{linesOf, placeAfter}
-use Rattle.program.proofs.Result.{resultOf}
-use Rattle.control_flow.specs.ControlFlow.{Bits, Kernel, controlFlowFromAny, controlFlowFromRegular, controlFlowFromBranch, controlFlowFromEcall, controlFlowFromJalr}
-use Rattle.control_flow.specs.FlagName.{nameAt}
+use Rattle.builder.specs.OneLine.{newIte}
+use Rattle.builder.specs.Prog.{Prog, done, line, _>>=_}
+use Rattle.builder.specs.Lines.{linesOf, placeAfter}
+use Rattle.builder.proofs.Result.{resultOf}
+use Rattle.join.specs.ControlFlow.{Bits, Kernel, controlFlowFromAny, controlFlowFromRegular, controlFlowFromBranch, controlFlowFromEcall, controlFlowFromJalr}
+use Rattle.join.specs.FlagName.{nameAt}
 use Rattle.join.specs.Program.{Edge, Dispatch, edgeName, namesOf, nextsOf, fromEdge, joinEdges, joinDispatches, joinAddress}
 use Rattle.btor2_list.specs.Records.{recordsIn}
 use Rattle.join.specs.Given.{dispatchesIn, dynamicFor}
 use Rattle.join.specs.Refusal.{JoinLent, JoinInput, edgesOf, dispatchesOf, flagOf, zeroIn, bitsIn, kernelIn, joinProgram, joinLineCount, joinRoomOut}
 use Rattle.join.specs.declared.JoinHeld.{JoinHeld}
-use Rattle.lowering_refusals.specs.declared.State.{State}
+use Rattle.state.specs.declared.State.{State}
 use Rattle.btor2_list.specs.Limits.{mostLines}
-use Rattle.roles.specs.Roles.{registerNode}
+use Rattle.state.specs.Roles.{registerNode}
 use Rattle.btor2_list.specs.Record.{capacity}
 use Rattle.join_calls.specs.Room.{edgeLines, edgesLines, zeroAfter, zeroAfterAll, dispatchLines, exceeding}
 use Rattle.join_calls.specs.Entry.{leftOf}

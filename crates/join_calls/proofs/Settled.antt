@@ -4,13 +4,13 @@ use mathlib.Core.Path.{_≡_, refl, sym, ap, _∙_}
 use mathlib.Core.List.{List, [], _∷_}
 use lib.ListN.{length}
 use Rattle.btor2.specs.declared.NodeRef.{NodeRef}
-use Rattle.program.specs.Prog.{_>>=_, Run, ran, exec}
+use Rattle.builder.specs.Prog.{_>>=_, Run, ran, exec}
 use Rattle.builder.specs.declared.Made.{Made}
 use Rattle.builder.specs.Gives.{Gives}
-use Rattle.roles.specs.Roles.{registerNode}
-use Rattle.control_flow.specs.ControlFlow.{Bits}
-use Rattle.control_flow.specs.Listed.{Listed, appendListed, Lists}
-use Rattle.control_flow.proofs.Lists.{Quiet, none, on, lists, quiet-jalr, quiet-bind}
+use Rattle.state.specs.Roles.{registerNode}
+use Rattle.join.specs.ControlFlow.{Bits}
+use Rattle.join.specs.Listed.{Listed, appendListed, Lists}
+use Rattle.join.proofs.Lists.{Quiet, none, on, lists, quiet-jalr, quiet-bind}
 use Rattle.join.specs.declared.Asked.{Asked}
 use Rattle.join.specs.declared.JoinHeld.{JoinHeld}
 use Rattle.join.specs.Program.{Dispatch, namesOf, nextsOf, joinEdges, joinDispatches, joinAddress}

@@ -7,15 +7,15 @@ use lib.ListN.{length}
 use Rattle.btor2_list.specs.Record.{capacity}
 use Rattle.edges.specs.Edges.{edgeStride, dispatchStride}
 use Rattle.btor2_list.specs.Limits.{mostLines, mostNid, tallyOut}
-use Rattle.control_flow.specs.declared.Kernel.{Kernel}
-use Rattle.state_words.specs.Words.{stateIn}
+use Rattle.join.specs.declared.Kernel.{Kernel}
+use Rattle.state.specs.Words.{stateIn}
 use Rattle.join.specs.declared.Asked.{Asked}
 use Rattle.join.specs.declared.JoinHeld.{JoinHeld}
 use Rattle.join.specs.Given.{flagStride}
 use Rattle.join.specs.Refusal.{JoinInput, edgesOf, zeroIn}
 use Rattle.join_calls.specs.declared.lines.Joining.{Joining}
 use Rattle.join_calls.specs.declared.room.Left.{Left}
-use Rattle.join_calls.specs.Steps.{Room}
+use Rattle.join_calls.specs.Steps.{RoomForEdges}
 
 -- what a state's words and the count of sequentials say is held
 abbrev pub joinHeldIn : List ℕ → ℕ → JoinHeld
@@ -31,7 +31,7 @@ countsOutBy list names sequentials edges dispatches flags h a =
     || ltb sequentials (h .sequentials)))))
 
 -- what is in use is within storage that holds so many lines, bytes and sequentials
-pub record Within (room bytes places : ℕ) (h : JoinHeld) : Type 0 where
+pub record HeldWithin (room bytes places : ℕ) (h : JoinHeld) : Type 0 where
   pub most : h .state .tally .lines ≤ mostLines
   pub lines : h .state .tally .lines ≤ room
   pub names : h .state .counts .names ≤ bytes
@@ -58,4 +58,4 @@ pub record ReadyToJoin (h : JoinHeld) (g : JoinInput) : Type 0 where
   pub edges : g .asked .edges * edgeStride ≤ length (g .edges)
   pub dispatches : g .asked .dispatches * dispatchStride ≤ length (g .dispatches)
   pub flags : g .asked .flags * flagStride ≤ length (g .flags)
-  pub room : Room (begun h (g .asked)) (edgesOf g)
+  pub room : RoomForEdges (begun h (g .asked)) (edgesOf g)

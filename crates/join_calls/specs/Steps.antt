@@ -4,9 +4,9 @@ use mathlib.Core.Path.{_≡_}
 use mathlib.Core.List.{List}
 use lib.ListN.{length}
 use lib.Seq.{sets}
-use Rattle.program.specs.Prog.{Prog}
+use Rattle.builder.specs.Prog.{Prog}
 use Rattle.builder.specs.Append.{at}
-use Rattle.control_flow.specs.Listed.{Listed, listed, Lists}
+use Rattle.join.specs.Listed.{Listed, listed, Lists}
 use Rattle.join.specs.Program.{Edge, Dispatch, edgeName, namesOf, nextsBy, nextsOf}
 use Rattle.join_calls.specs.declared.lines.Joining.{Joining}
 
@@ -28,10 +28,10 @@ pub record Joins (ws names seq : List ℕ) (j : Joining) (p : Prog ℕ ℕ) (tex
   pub counted : r .sequentials ≡ j .sequentials + nexts
 
 -- the counts after these edges fit
-pub record Room (j : Joining) (xs : List (Edge ℕ)) : Type 0 where
+pub record RoomForEdges (j : Joining) (xs : List (Edge ℕ)) : Type 0 where
   pub names : j .names + length (namesOf xs) < 2 ^ 64
   pub sequentials : j .sequentials + nextsOf xs < 2 ^ 64
 
-pub record RoomOne (j : Joining) (origin from : ℕ) : Type 0 where
+pub record RoomForEdge (j : Joining) (origin from : ℕ) : Type 0 where
   pub names : j .names + length (edgeName origin from) < 2 ^ 64
   pub sequentials : j .sequentials + nextsBy origin < 2 ^ 64

@@ -1,4 +1,5 @@
 // The join of one address's edges and dispatches into its flag: the refusals first, then the lines.
+mod control_flow;
 mod lines;
 mod refusals;
 mod room;
@@ -10,41 +11,41 @@ use btor2_list::capacity;
 use btor2_list::tally_out;
 use builder::Made;
 use builder::Tally;
-use control_flow::Bits;
-use control_flow::Kernel;
-use dispatches::DISPATCH;
+use edges::DISPATCH;
 use edges::EDGE;
 use join::Asked;
+use join::Bits;
 use join::JoinHeld;
 use join::Joined;
+use join::Kernel;
 use lines::FLAG;
 use lines::Joining;
 use lines::join_dispatches;
 use lines::join_edges;
-use lowering_refusals::BAD_COUNT;
-use lowering_refusals::Counts;
-use lowering_refusals::State;
 use refusals::dispatches_out;
 use refusals::edges_out;
 use refusals::flags_out;
-use roles::ROLES;
 use room::Left;
 use room::room_exceeded;
-use state_words::STATE_WORDS;
+use state::BAD_COUNT;
+use state::Counts;
+use state::ROLES;
+use state::STATE_WORDS;
+use state::State;
 ghost use mathlib.Core.Path.{_≡_};
 ghost use mathlib.Core.List.{List};
 ghost use Prim.Native.Nat.{ℕ, min};
 ghost use lib.ListN.{length};
-ghost use Rattle.control_flow.specs.Listed.{appendListed};
-ghost use Rattle.program.specs.Prog.{exec};
-ghost use Rattle.roles.specs.Roles.{role, zeroBit, roleCount};
+ghost use Rattle.join.specs.Listed.{appendListed};
+ghost use Rattle.builder.specs.Prog.{exec};
+ghost use Rattle.state.specs.Roles.{role, zeroBit, roleCount};
 ghost use Rattle.btor2_list.specs.Limits.{mostLines};
 ghost use Rattle.btor2_list.specs.Record.{capacity as capacityOf};
 ghost use Rattle.join.specs.Refusal.{joinLent, joinInput, joinProgram, joinRefusal};
 ghost use Rattle.join.specs.Join.{joinAnswer, heldAfter, joinStore, joinSettled, joining};
 ghost use Rattle.join.specs.Words.{givenJoin, joiningWords};
-ghost use Rattle.state_words.specs.Words.{countsStored};
-ghost use Rattle.join_calls.specs.Entry.{joinHeldIn, countsOutBy, Within, leftOf, kernelBy, begun, ReadyToJoin};
+ghost use Rattle.state.specs.Words.{countsStored};
+ghost use Rattle.join_calls.specs.Entry.{joinHeldIn, countsOutBy, HeldWithin, leftOf, kernelBy, begun, ReadyToJoin};
 
 // Joins one address's edges, then its dispatches, into a flow. What is held says how much of the list, our name area and the sequentials is in
 // use, the next identifier and the roles. An edge has four words, a dispatch and a flag two each; the dynamic flags are those of x1 to x31. A
@@ -150,7 +151,7 @@ pub fn join_words(
 fn held_in(words: &[u64], used: usize) -> JoinHeld
     ensures { λ r. ⌜ r ≡ joinHeldIn (now (words .entry)) used ⌝ }
 {
-    let state = state_words::state_in(words);
+    let state = state::state_in(words);
     JoinHeld {
         state,
         sequentials: used,
@@ -164,7 +165,7 @@ fn put_held(words: &mut [u64], h: JoinHeld)
     let state = h.state;
     let t = state.tally;
     let c = state.counts;
-    state_words::put_counts(words, t, c);
+    state::put_counts(words, t, c);
 }
 
 // The first of 9, 13, 15, 16 and 8 that applies, or 0. Of our name area and the sequentials the lengths matter alone.
@@ -196,7 +197,7 @@ fn refuse(
     let state = h.state;
     let t = state.tally;
     let places = state.roles;
-    if roles_check::roles_out(list, t.lines, places) {
+    if state::roles_out(list, t.lines, places) {
         return 13;
     }
     let k = kernel_of(a);
@@ -232,7 +233,7 @@ fn zero_bit(places: [NodeRef; ROLES]) -> NodeRef
     ensures is { λ r. ⌜ r ≡ role places zeroBit ⌝ }
     ensures size { λ r. ⌜ length places ≡ roleCount ⌝ }
 {
-    places[roles::ZERO_BIT]
+    places[state::ZERO_BIT]
 }
 
 // 9: too many lines, too large a next identifier, or a count above its storage, which has these lengths.
@@ -260,14 +261,14 @@ fn counts_out(
 
 // What room is left of storage of these lengths.
 fn room_left(list: usize, names: usize, sequentials: usize, a: Asked, h: JoinHeld) -> Left
-    requires { ⌜ Within (capacityOf list) names sequentials h ⌝ }
+    requires { ⌜ HeldWithin (capacityOf list) names sequentials h ⌝ }
     ensures { λ r. ⌜ r ≡ leftOf (capacityOf list) names sequentials h a ⌝ }
 {
     let state = h.state;
     let t = state.tally;
     let c = state.counts;
     let places = state.roles;
-    let zero = places[roles::ZERO_BIT];
+    let zero = places[state::ZERO_BIT];
     let flow = a.flow;
     Left {
         lines: at_most(capacity(list)) - t.lines,
@@ -305,8 +306,8 @@ fn accept(
     let state = h.state;
     let places = state.roles;
     let bits = Bits {
-        zero: places[roles::ZERO_BIT],
-        one: places[roles::ONE_BIT],
+        zero: places[state::ZERO_BIT],
+        one: places[state::ONE_BIT],
     };
     let k = kernel_of(a);
     let begun = begin(a, h);

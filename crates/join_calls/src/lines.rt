@@ -1,30 +1,30 @@
 // The lines of a join: one address's edges, then its dispatches.
+use crate::control_flow::control_flow_from_branch;
+use crate::control_flow::control_flow_from_ecall;
+use crate::control_flow::control_flow_from_jalr;
+use crate::control_flow::control_flow_from_regular;
+use crate::control_flow::flag_name_len;
+use crate::control_flow::put_flag_name;
 use btor2::Name;
 use btor2::NodeRef;
 use builder::Made;
 use builder::Tally;
-use control_flow::Bits;
-use control_flow::Kernel;
-use control_flow::control_flow_from_branch;
-use control_flow::control_flow_from_ecall;
-use control_flow::control_flow_from_jalr;
-use control_flow::control_flow_from_regular;
-use control_flow::flag_name_len;
-use control_flow::put_flag_name;
+use join::Bits;
+use join::Kernel;
 use riscv::LAST_REGISTER;
-use roles::ROLES;
+use state::ROLES;
 ghost use mathlib.Core.Path.{_≡_};
 ghost use Prim.Native.Nat.{_+_, _*_, _≤_};
 ghost use lib.ListN.{length, drop};
 ghost use Rattle.builder.specs.Gives.{Gives};
 ghost use Rattle.edges.specs.Edges.{edgeStride, syscallOrigin, dispatchStride};
-ghost use Rattle.roles.specs.Roles.{registerNode};
-ghost use Rattle.control_flow.specs.FlagName.{nameAt};
-ghost use Rattle.control_flow.specs.ControlFlow.{controlFlowFromEcall, controlFlowFromJalr};
-ghost use Rattle.control_flow.specs.Code.{bitPlaces, kernelPlaces};
+ghost use Rattle.state.specs.Roles.{registerNode};
+ghost use Rattle.join.specs.FlagName.{nameAt};
+ghost use Rattle.join.specs.ControlFlow.{controlFlowFromEcall, controlFlowFromJalr};
+ghost use Rattle.join.specs.Code.{bitPlaces, kernelPlaces};
 ghost use Rattle.join.specs.Program.{edgeName, namesOf, nextsBy, nextsOf, fromEdge, joinEdges, joinDispatches};
 ghost use Rattle.join.specs.Given.{edgeIn, edgesIn, dispatchIn, dispatchesIn, flagStride, flagsIn, flagFor, dynamicFor};
-ghost use Rattle.join_calls.specs.Steps.{edgeRecord, Joins, Room, RoomOne};
+ghost use Rattle.join_calls.specs.Steps.{edgeRecord, Joins, RoomForEdges, RoomForEdge};
 
 // The words of an entry of the table of flags: address, place.
 pub(crate) const FLAG: usize = 2;
@@ -71,7 +71,7 @@ fn from_edge(
     origin: u64,
     condition: NodeRef,
 ) -> Joining
-    requires { ⌜ RoomOne j origin from ⌝ }
+    requires { ⌜ RoomForEdge j origin from ⌝ }
     ensures { λ r. ⌜ Joins (now (list .entry)) (now (names .entry)) (now (sequentials .entry)) j (fromEdge (bitPlaces b) (kernelPlaces k) (λ _. flag .0) (j .names) (edgeRecord from origin (condition .0)) (j .flow .0)) (edgeName origin from) (nextsBy origin) (now (list .exit)) (now (names .exit)) (now (sequentials .exit)) r ⌝ }
 {
     let t = j.tally;
@@ -111,7 +111,7 @@ fn from_syscall(
     flag: NodeRef,
     from: u64,
 ) -> Joining
-    requires { ⌜ RoomOne j syscallOrigin from ⌝ }
+    requires { ⌜ RoomForEdge j syscallOrigin from ⌝ }
     ensures { λ r. ⌜ Joins (now (list .entry)) (now (names .entry)) (now (sequentials .entry)) j (controlFlowFromEcall (bitPlaces b) (kernelPlaces k) (flag .0) (nameAt (j .names) from) (j .flow .0)) (edgeName syscallOrigin from) 1 (now (list .exit)) (now (names .exit)) (now (sequentials .exit)) r ⌝ }
 {
     let t = j.tally;
@@ -120,7 +120,7 @@ fn from_syscall(
     let flow = j.flow;
     let len = flag_name_len(from);
     let name = Name {
-        area: btor2_name::OURS,
+        area: btor2_list::OUR_AREA,
         at: at as u64,
         len: len as u64,
     };
@@ -149,7 +149,7 @@ fn join_edge(
     k: Kernel,
     j: Joining,
 ) -> Joining
-    requires { ⌜ (done * edgeStride + edgeStride ≤ length (now edges)) × (count * flagStride ≤ length (now flags)) × RoomOne j (edgeIn (drop (done * edgeStride) (now edges)) .origin) (edgeIn (drop (done * edgeStride) (now edges)) .from) ⌝ }
+    requires { ⌜ (done * edgeStride + edgeStride ≤ length (now edges)) × (count * flagStride ≤ length (now flags)) × RoomForEdge j (edgeIn (drop (done * edgeStride) (now edges)) .origin) (edgeIn (drop (done * edgeStride) (now edges)) .from) ⌝ }
     ensures { λ r. ⌜ Joins (now (list .entry)) (now (names .entry)) (now (sequentials .entry)) j (fromEdge (bitPlaces b) (kernelPlaces k) (flagFor (flagsIn count (now (flags .entry)))) (j .names) (edgeIn (drop (done * edgeStride) (now (edges .entry)))) (j .flow .0)) (edgeName (edgeIn (drop (done * edgeStride) (now (edges .entry))) .origin) (edgeIn (drop (done * edgeStride) (now (edges .entry))) .from)) (nextsBy (edgeIn (drop (done * edgeStride) (now (edges .entry))) .origin)) (now (list .exit)) (now (names .exit)) (now (sequentials .exit)) r ⌝ }
 {
     let at = done * edges::EDGE;
@@ -184,7 +184,7 @@ pub(crate) fn join_edges(
     k: Kernel,
     j: Joining,
 ) -> Joining
-    requires { ⌜ (number * edgeStride ≤ length (now edges)) × (count * flagStride ≤ length (now flags)) × Room j (edgesIn number (now edges)) ⌝ }
+    requires { ⌜ (number * edgeStride ≤ length (now edges)) × (count * flagStride ≤ length (now flags)) × RoomForEdges j (edgesIn number (now edges)) ⌝ }
     ensures { λ r. ⌜ Joins (now (list .entry)) (now (names .entry)) (now (sequentials .entry)) j (joinEdges (bitPlaces b) (kernelPlaces k) (flagFor (flagsIn count (now (flags .entry)))) (j .names) (edgesIn number (now (edges .entry))) (j .flow .0)) (namesOf (edgesIn number (now (edges .entry)))) (nextsOf (edgesIn number (now (edges .entry)))) (now (list .exit)) (now (names .exit)) (now (sequentials .exit)) r ⌝ }
 {
     let mut at = j;
@@ -235,7 +235,7 @@ fn join_dispatch(
     requires { ⌜ done * dispatchStride + dispatchStride ≤ length (now dispatches) ⌝ }
     ensures { λ r. ⌜ Gives (now (list .entry)) (m .tally) (controlFlowFromJalr (bitPlaces b) (registerNode roles (dispatchIn (drop (done * dispatchStride) (now (dispatches .entry))) .register) .0) (dynamicFor (now (dynamics .entry)) (dispatchIn (drop (done * dispatchStride) (now (dispatches .entry))) .register)) (dispatchIn (drop (done * dispatchStride) (now (dispatches .entry))) .address) (m .node .0)) (now (list .exit)) (r .tally) (r .node .0) ⌝ }
 {
-    let at = done * dispatches::DISPATCH;
+    let at = done * edges::DISPATCH;
     let register = dispatches[at];
     let address = NodeRef(dispatches[at + 1] as usize);
     let node = register_node(roles, register);
@@ -248,9 +248,9 @@ fn register_node(roles: [NodeRef; ROLES], r: u64) -> NodeRef
     ensures { λ x. ⌜ x ≡ registerNode roles r ⌝ }
 {
     if r > LAST_REGISTER {
-        return roles[roles::REGISTERS];
+        return roles[state::REGISTERS];
     }
-    let at = roles::REGISTERS + r as usize;
+    let at = state::REGISTERS + r as usize;
     roles[at]
 }
 

@@ -1,8 +1,8 @@
 // Refusal 8 of a join: what the whole call appends is counted before anything is written. Each edge is taken from what room is left, so that no
 // sum can wrap.
+use crate::control_flow::flag_name_len;
 use crate::lines::find_flag;
 use btor2::NodeRef;
-use control_flow::flag_name_len;
 use edges::BRANCH;
 use edges::EDGE;
 use edges::SYSCALL;

@@ -22,11 +22,10 @@ use btor2_list::Found;
 use btor2_list::Line;
 use btor2_list::STATE;
 use builder::Tally;
-use case_record::read_record;
-use case_state::Step;
-use case_state::read_counts;
-use case_state::read_role;
-use decimal_text::read_decimal;
+use cases::read_counts;
+use cases::read_decimal;
+use cases::read_record;
+use cases::read_role;
 use edges::EDGE;
 use edges::InEdge;
 use join::Asked;
@@ -34,9 +33,9 @@ use join::JoinHeld;
 use join::Joined;
 use libc::STDIN_FILENO;
 use libc::STDOUT_FILENO;
-use lowering_refusals::Counts;
-use lowering_refusals::State;
-use roles::ROLES;
+use state::Counts;
+use state::ROLES;
+use state::State;
 ghost use Prim.Native.Nat.{_<_, _≤_};
 
 // What is given lies in one array, in an area for each kind of words.
@@ -656,7 +655,7 @@ fn show_line(names: &[u8], line: Line) {
     ];
     show_numbers(&numbers);
     if line.kind == STATE {
-        io::write_all(STDOUT_FILENO, btor2_name::name_bytes(b"", names, line.name));
+        io::write_all(STDOUT_FILENO, btor2_list::name_bytes(b"", names, line.name));
         io::write_all(STDOUT_FILENO, b"\n");
     }
 }

@@ -19,7 +19,7 @@ use Rattle.edges.specs.declared.InEdge.{InEdge}
 use Rattle.edges.specs.InEdges.{edgeWords}
 use Rattle.edges.proofs.InEdges.{records}
 use Rattle.join_entry.specs.Records.{withWords, edgesOver, joiningRecords}
-use Rattle.join_entry.specs.Parts.{putCount, Fits, joiningWithin}
+use Rattle.join_entry.specs.Parts.{putCount, EdgesFit, joiningWithin}
 use Rattle.join_entry.proofs.Words.{same-edges}
 
 module _ (l : JoinLent) (h : JoinHeld) (dispatches flags dynamics : List ℕ) (a : Asked) where
@@ -60,10 +60,10 @@ module _ (l : JoinLent) (h : JoinHeld) (dispatches flags dynamics : List ℕ) (a
     answered k x zs counted told is = rw (is, told, counted) (by-tests (ltb (length es) n) (ltb (length ws / edgeStride) n) refl refl)
 
 -- as many records as are put, and words for them
-pub fits : (a : Asked) (es : List InEdge) (ws : List ℕ) → Fits (putCount (length es) (length ws) a) es ws
+pub fits : (a : Asked) (es : List InEdge) (ws : List ℕ) → EdgesFit (putCount (length es) (length ws) a) es ws
 fits a es ws = by-test (edgesOver (length es) (length ws) a) refl
   where
-    by-test : (b : Bool) → edgesOver (length es) (length ws) a ≡ b → Fits (putCount (length es) (length ws) a) es ws
+    by-test : (b : Bool) → edgesOver (length es) (length ws) a ≡ b → EdgesFit (putCount (length es) (length ws) a) es ws
     by-test true e = rw e (record { records = omega arith; words = omega arith })
     by-test false e =
         let both = neither (ltb (length es) (a .edges)) (ltb (length ws / edgeStride) (a .edges)) e in

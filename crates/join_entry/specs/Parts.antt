@@ -17,7 +17,7 @@ abbrev pub putCount : ℕ → ℕ → Asked → ℕ
 putCount records words a = cond (edgesOver records words a) 0 (a .edges)
 
 -- there are so many records, and the words hold theirs
-pub record Fits (count : ℕ) (es : List InEdge) (ws : List ℕ) : Type 0 where
+pub record EdgesFit (count : ℕ) (es : List InEdge) (ws : List ℕ) : Type 0 where
   pub records : count ≤ length es
   pub words : count * edgeStride ≤ length ws
 

@@ -5,7 +5,7 @@ use edges::InEdge;
 use join::Asked;
 use join::JoinHeld;
 use join::Joined;
-use lowering_refusals::BAD_COUNT;
+use state::BAD_COUNT;
 ghost use mathlib.Core.Path.{_≡_};
 ghost use Prim.Native.Nat.{_+_, _*_, _≤_};
 ghost use lib.ListN.{length, take};
@@ -15,7 +15,7 @@ ghost use Rattle.join.specs.Refusal.{joinLent, joinInput};
 ghost use Rattle.join.specs.Join.{joinAnswer};
 ghost use Rattle.edges.specs.InEdges.{edgeWords};
 ghost use Rattle.join_entry.specs.Records.{withWords, joiningRecords};
-ghost use Rattle.join_entry.specs.Parts.{putCount, Fits, joiningWithin};
+ghost use Rattle.join_entry.specs.Parts.{putCount, EdgesFit, joiningWithin};
 
 // Joins as `join_calls::join` does, with one address's edges in a slice of records. `words` is room for four words an edge, which the call may
 // use; fewer are refusal 9, and so are more edges than there are records. Any call but one refused for these leaves its edges' words in front.
@@ -51,7 +51,7 @@ pub fn join(
 
 // Puts the words of the first `count` records, four each, into `words`, which hold them.
 fn put_words(edges: &[InEdge], count: usize, words: &mut [u64])
-    requires { ⌜ Fits count (now edges) (now words) ⌝ }
+    requires { ⌜ EdgesFit count (now edges) (now words) ⌝ }
     ensures { λ _. ⌜ now (words .exit) ≡ sets (now (words .entry)) 0 (edgeWords (take count (now (edges .entry)))) ⌝ }
 {
     let mut place = 0;

@@ -1,11 +1,11 @@
 -- An accepted join: its lines stand after the others, and its flow means what it should. Assumes nothing.
-use Prim.Native.Nat.{ℕ, zero, suc, _+_, _-_, _≤_, _<_, _^_}
+use Prim.Native.Nat.{ℕ, zero, suc, _+_, _-_, _≤_, _<_}
 use native.Mathlib.Omega.{arith}
 use native.Mathlib.Nat.{add-zero}
 use mathlib.Core.Path.{_≡_, refl, sym, _∙_, ap, subst}
-use mathlib.Core.Bool.{Bool, true, false, cond, not, _&&_, _||_}
+use mathlib.Core.Bool.{false, _||_}
 use mathlib.Core.List.{List, [], _∷_, _++_, map}
-use borrow.Author.Tests.{ltb-false, ltb-true, lt-ltb, le-ltb, eqb-true, eqb-false, not-false, eq-eqb}
+use borrow.Author.Tests.{ltb-false, eqb-true, eqb-false, not-false, eq-eqb}
 use lib.Dec.{T, eqb, ltb}
 use lib.ListN.{length, getD, drop}
 use lib.Seq.{length-sets}
@@ -18,38 +18,35 @@ use Rattle.btor2.specs.Value.{Env, value}
 use Rattle.btor2.proofs.Range.{value-fits}
 use Rattle.btor2.proofs.SortRule.{line-kept}
 use Rattle.btor2_list.specs.Record.{capacity, wordsFor}
-use Rattle.btor2_list.specs.Look.{lookAt}
 use Rattle.btor2_list.specs.View.{view}
 use Rattle.btor2_list.proofs.Stored.{below, above}
 use Rattle.builder.specs.declared.Tally.{Tally}
 use Rattle.builder.specs.Append.{Store, at, append}
-use Rattle.program.specs.Prog.{Prog, Run, ran, exec}
-use Rattle.riscv.specs.Refusal.{first}
-use Rattle.roles.specs.Roles.{role, roleCount, registerNode}
+use Rattle.builder.specs.Prog.{Prog, Run, ran, exec}
+use Rattle.state.specs.Roles.{role, roleCount, registerNode}
 use Rattle.riscv.specs.Format.{lastRegister}
-use Rattle.roles_check.specs.RolesFit.{valueSort, rolesFit}
+use Rattle.state.specs.RolesFit.{rolesFit}
 use Rattle.edges.specs.Edges.{branchOrigin, syscallOrigin}
-use Rattle.btor2_list.specs.Limits.{mostLines, mostNid}
-use Rattle.program.specs.Lines.{linesOf, placeAfter}
-use Rattle.program.proofs.Result.{resultOf}
+use Rattle.btor2_list.specs.Limits.{mostLines}
+use Rattle.builder.specs.Lines.{linesOf, placeAfter}
 use Rattle.lowering_laws.specs.Lines.{numbered, taking}
 use Rattle.lowering_laws.specs.Elsewhere.{Elsewhere}
-use Rattle.lowering_laws.proofs.Laid.{Room, Laid, laid, taking-most}
+use Rattle.lowering_laws.proofs.Laid.{RoomForLines, Laid, laid, taking-most}
 use Rattle.meaning.specs.Lines.{operators}
 use Rattle.meaning.proofs.Behind.{inside}
 use Rattle.roles_kept.proofs.Views.{operators-length, numbered-operators, map-append, look-is}
 use Rattle.roles_kept.proofs.RoleSets.{Fit, fit-given, given-fit, fit-node}
-use Rattle.join.specs.Program.{Edge, Dispatch, joinAddress}
+use Rattle.join.specs.Program.{Edge, Dispatch}
 use Rattle.btor2_list.specs.Records.{recordsIn}
 use Rattle.list_check.specs.Lines.{any}
 use Rattle.join.specs.Given.{dynamicCount, dynamicsIn, dynamicFor, noFlag}
-use Rattle.control_flow.specs.ControlFlow.{Bits, Kernel}
-use Rattle.control_flow.specs.Listed.{Listed, listed, appendListed}
-use Rattle.join.specs.Program.{namesOf, nextsOf}
-use Rattle.control_flow.proofs.Lists.{forgets}
+use Rattle.join.specs.ControlFlow.{Bits, Kernel}
+use Rattle.join.specs.Listed.{Listed, appendListed}
+use Rattle.join.specs.Program.{namesOf}
+use Rattle.join.proofs.Lists.{forgets}
 use Rattle.join.specs.declared.JoinHeld.{JoinHeld}
-use Rattle.join.specs.Refusal.{JoinLent, JoinInput, edgesOf, dispatchesOf, flagsOf, flagOf, bitsIn, kernelIn, joinProgram, joinCountsOut, bitOut, wordOut, unflagged, entryOut, flagsOut, edgeOut, dispatchOut, joinLineCount, joinRoomOut, joinRefusal}
-use Rattle.join.specs.Join.{JoinAnswer, joinStore, joinSettled, joining}
+use Rattle.join.specs.Refusal.{JoinLent, JoinInput, edgesOf, dispatchesOf, flagsOf, flagOf, bitsIn, kernelIn, joinProgram, bitOut, wordOut, unflagged, entryOut, flagsOut, edgeOut, dispatchOut, joinLineCount, joinRoomOut, joinRefusal}
+use Rattle.join.specs.Join.{joinStore, joinSettled, joining}
 use Rattle.join.proofs.Numbers.{Passed, passed}
 use Rattle.join_laws.specs.Push.{pushed}
 use Rattle.join_laws.specs.Active as Act
@@ -104,7 +101,7 @@ module _ (l : JoinLent) (h : JoinHeld) (g : JoinInput) (e : joinRefusal l h g �
   held = omega (arith, its .counts .held)
 
   -- the lines fit
-  pub room : Room (l .list) (h .state .tally) (joinLineCount (h .state) g) (taking (linesOf (placeAfter lines) 0 (joinProgram (h .state) g)))
+  pub room : RoomForLines (l .list) (h .state .tally) (joinLineCount (h .state) g) (taking (linesOf (placeAfter lines) 0 (joinProgram (h .state) g)))
   unfolding joinRoomOut joinLineCount
   room =
       let p = neither (ltb mostLines (lines + joinLineCount (h .state) g)) _ (its .room) in

@@ -10,11 +10,11 @@ use Rattle.btor2.specs.Op.{Op}
 use Rattle.btor2.specs.Value.{Env, value}
 use Rattle.btor2.proofs.Value.{value-kept}
 use Rattle.list_check.specs.Lines.{any}
-use Rattle.program.specs.Prog.{Prog, done, _>>=_, Run, ran, exec}
-use Rattle.program.proofs.Exec.{exec-bind}
-use Rattle.control_flow.specs.ControlFlow.{Bits, Kernel, controlFlowFromRegular, controlFlowFromBranch, controlFlowFromEcall, controlFlowFromJalr}
+use Rattle.builder.specs.Prog.{Prog, done, _>>=_, Run, ran, exec}
+use Rattle.builder.proofs.Exec.{exec-bind}
+use Rattle.join.specs.ControlFlow.{Bits, Kernel, controlFlowFromRegular, controlFlowFromBranch, controlFlowFromEcall, controlFlowFromJalr}
 use Rattle.join.specs.Program.{Edge, Dispatch, fromEdge, joinEdges, joinDispatches, joinAddress}
-use Rattle.control_flow.specs.FlagName.{nameAt}
+use Rattle.join.specs.FlagName.{nameAt}
 use Rattle.join.specs.Program.{edgeName}
 use Rattle.join_laws.specs.Push.{push, pushed}
 use Rattle.join_laws.specs.Active.{on, activeEdge, anyActive, activePlain, activeDispatch, NoSyscall}
@@ -24,12 +24,12 @@ use Rattle.join_laws.proofs.Step.{Stepped, given-kept, wider, by, twice
 
 module _ (env : Env) (flagOf : ℕ → ℕ) (b : Bits ℕ) (k : Kernel ℕ) where
   -- what holds of the list when a step begins
-  pub record Ready (xs : List (Op ℕ)) : Type 0 where
+  pub record EdgeReady (xs : List (Op ℕ)) : Type 0 where
     pub given : KnownBits env xs b
     pub none : Bit env xs (k .none)
 
-  pub ready-kept : {xs ys : List (Op ℕ)} (zs : List (Op ℕ)) → ys ≡ xs ++ zs → Ready xs → Ready ys
-  ready-kept {xs} {ys} zs e r = subst (λ l. Ready l) (sym e) (record { given = given-kept env zs (r .given); none = bit-kept env xs zs (r .none) })
+  pub ready-kept : {xs ys : List (Op ℕ)} (zs : List (Op ℕ)) → ys ≡ xs ++ zs → EdgeReady xs → EdgeReady ys
+  ready-kept {xs} {ys} zs e r = subst (λ l. EdgeReady l) (sym e) (record { given = given-kept env zs (r .given); none = bit-kept env xs zs (r .none) })
 
   sound-kept : (xs ys zs : List (Op ℕ)) → ys ≡ xs ++ zs → (es : List (Edge ℕ)) → AllSound env flagOf k xs es → AllSound env flagOf k ys es
   sound-kept xs ys zs e [] s = s
@@ -38,7 +38,7 @@ module _ (env : Env) (flagOf : ℕ → ℕ) (b : Bits ℕ) (k : Kernel ℕ) wher
     sound-kept xs ys zs e es (s .1),
   )
 
-  pub edge : (xs : List (Op ℕ)) → Ready xs → (at : ℕ) (x : Edge ℕ) → Sound env flagOf k xs x → (flow : ℕ) → flow < length xs
+  pub edge : (xs : List (Op ℕ)) → EdgeReady xs → (at : ℕ) (x : Edge ℕ) → Sound env flagOf k xs x → (flow : ℕ) → flow < length xs
       → Stepped env xs flow (activeEdge env flagOf k xs x) (pushed xs (fromEdge b k flagOf at x flow))
   unfolding fromEdge
   edge xs r at x s flow hf = go (eqb (x .origin) 1) (eqb (x .origin) 2) refl
@@ -53,7 +53,7 @@ module _ (env : Env) (flagOf : ℕ → ℕ) (b : Bits ℕ) (k : Kernel ℕ) wher
       go false true e = called env xs b (r .given) flow hf k f (nameAt at (x .from)) (r .none)
       go false false e = regular env xs b (r .given) flow hf f (s .flag .place)
 
-  pub edges : (xs : List (Op ℕ)) → Ready xs → (at : ℕ) (es : List (Edge ℕ)) → AllSound env flagOf k xs es → (flow : ℕ) → flow < length xs
+  pub edges : (xs : List (Op ℕ)) → EdgeReady xs → (at : ℕ) (es : List (Edge ℕ)) → AllSound env flagOf k xs es → (flow : ℕ) → flow < length xs
       → Stepped env xs flow (anyActive env flagOf b k xs at es flow) (pushed xs (joinEdges b k flagOf at es flow))
   unfolding joinEdges anyActive
   edges xs r at [] s flow hf = record { more = []; extends = sym (append-nil xs); place = hf; is = refl }
@@ -122,7 +122,7 @@ module _ (env : Env) (flagOf : ℕ → ℕ) (b : Bits ℕ) (k : Kernel ℕ) wher
       go true o = rw (value-kept env xs zs f (s .0 .flag .place), value-kept env xs zs (x .condition) (s .0 .condition (eqb-true _ _ o) .place))
       go false o = rw (value-kept env xs zs f (s .0 .flag .place))
 
-  active-plain : (xs : List (Op ℕ)) → Ready env flagOf b k xs → (at : ℕ) (es : List (Edge ℕ)) → AllSound env flagOf k xs es → NoSyscall es → (flow : ℕ) → flow < length xs
+  active-plain : (xs : List (Op ℕ)) → EdgeReady env flagOf b k xs → (at : ℕ) (es : List (Edge ℕ)) → AllSound env flagOf k xs es → NoSyscall es → (flow : ℕ) → flow < length xs
       → anyActive env flagOf b k xs at es flow ≡ any (activePlain env flagOf xs) es
   unfolding anyActive
   active-plain xs r at [] s n flow hf = refl

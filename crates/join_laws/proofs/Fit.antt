@@ -8,13 +8,13 @@ use lib.ListN.{length}
 use Rattle.btor2.specs.Op.{Op}
 use Rattle.btor2.specs.declared.NodeType.the-variants.{Bit as B1}
 use Rattle.btor2_list.proofs.Fitting.{areaFits}
-use Rattle.program.specs.Prog.{Prog, done, line, _>>=_}
-use Rattle.program.specs.OneLine.{newIte}
-use Rattle.program.specs.Lines.{linesOf}
+use Rattle.builder.specs.Prog.{Prog, done, line, _>>=_}
+use Rattle.builder.specs.OneLine.{newIte}
+use Rattle.builder.specs.Lines.{linesOf}
 use Rattle.lowering_laws.proofs.Growth.{fitting}
-use Rattle.control_flow.specs.ControlFlow.{Bits, Kernel, controlFlowFromAny, controlFlowFromRegular, controlFlowFromBranch, controlFlowFromEcall, controlFlowFromJalr}
+use Rattle.join.specs.ControlFlow.{Bits, Kernel, controlFlowFromAny, controlFlowFromRegular, controlFlowFromBranch, controlFlowFromEcall, controlFlowFromJalr}
 use Rattle.join.specs.Program.{Edge, Dispatch, fromEdge, joinEdges, joinDispatches, joinAddress}
-use Rattle.control_flow.specs.FlagName.{nameAt}
+use Rattle.join.specs.FlagName.{nameAt}
 use Rattle.join.specs.Program.{edgeName}
 
 pub data Fit {X : Type 0} : Prog ℕ X → Type 0 where

@@ -18,9 +18,9 @@ use Rattle.btor2.specs.Value.{Value, number, Env, evalOp, values, value}
 use Rattle.btor2.specs.Walk.{walk}
 use Rattle.btor2.proofs.Walk.{walk-append, length-walk}
 use Rattle.btor2.proofs.Value.{value-kept}
-use Rattle.program.specs.Prog.{Prog, done, line, Run, ran, exec}
-use Rattle.program.specs.Lines.{linesOf, placeAfter}
-use Rattle.program.proofs.Result.{resultOf}
+use Rattle.builder.specs.Prog.{Prog, done, line, Run, ran, exec}
+use Rattle.builder.specs.Lines.{linesOf, placeAfter}
+use Rattle.builder.proofs.Result.{resultOf}
 use Rattle.join_laws.specs.Push.{push, pushed}
 use Rattle.join_laws.proofs.Sound.{Bit}
 

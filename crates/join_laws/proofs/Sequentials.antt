@@ -11,10 +11,10 @@ use lib.Seq.{sets, length-sets}
 use Rattle.btor2.specs.Op.{Op}
 use Rattle.btor2_list.proofs.Stored.{below, above}
 use Rattle.btor2_list.specs.Records.{putRecord}
-use Rattle.program.specs.Prog.{Prog, done, line, exec}
+use Rattle.builder.specs.Prog.{Prog, done, line, exec}
 use Rattle.builder.specs.Append.{append}
 use Rattle.lowering_laws.specs.Elsewhere.{Elsewhere}
-use Rattle.control_flow.specs.Listed.{isNext, Listed, listed, appendListed}
+use Rattle.join.specs.Listed.{isNext, Listed, listed, appendListed}
 
 pub record Listing (s r : Listed) : Type 0 where
   pub grows : s .count ≤ r .count

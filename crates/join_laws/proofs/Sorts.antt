@@ -18,13 +18,13 @@ use Rattle.btor2.proofs.LineIs.{lineIs}
 use Rattle.btor2.specs.Walk.{walk}
 use Rattle.btor2.proofs.Walk.{walk-append}
 use Rattle.btor2.proofs.SortRule.{mark-at, mark-line, line-kept}
-use Rattle.program.specs.Prog.{Prog, done, _>>=_, Run, ran, exec}
-use Rattle.program.specs.OneLine.{newIte}
-use Rattle.program.proofs.Exec.{exec-bind}
+use Rattle.builder.specs.Prog.{Prog, done, _>>=_, Run, ran, exec}
+use Rattle.builder.specs.OneLine.{newIte}
+use Rattle.builder.proofs.Exec.{exec-bind}
 use Rattle.meaning.proofs.Behind.{inside}
-use Rattle.control_flow.specs.ControlFlow.{Bits, Kernel, controlFlowFromAny, controlFlowFromRegular, controlFlowFromBranch, controlFlowFromEcall, controlFlowFromJalr}
+use Rattle.join.specs.ControlFlow.{Bits, Kernel, controlFlowFromAny, controlFlowFromRegular, controlFlowFromBranch, controlFlowFromEcall, controlFlowFromJalr}
 use Rattle.join.specs.Program.{Edge, Dispatch, fromEdge, joinEdges, joinDispatches, joinAddress}
-use Rattle.control_flow.specs.FlagName.{nameAt}
+use Rattle.join.specs.FlagName.{nameAt}
 use Rattle.join.specs.Program.{edgeName}
 use Rattle.join_laws.specs.Push.{push, pushed}
 use Rattle.join_laws.proofs.Pushed.{longer}

@@ -9,7 +9,7 @@ use Rattle.btor2.specs.Op.{Op}
 use Rattle.btor2.specs.Value.{Env, value}
 use Rattle.list_check.specs.Lines.{any}
 use Rattle.edges.specs.Edges.{branchOrigin}
-use Rattle.control_flow.specs.ControlFlow.{Bits, Kernel}
+use Rattle.join.specs.ControlFlow.{Bits, Kernel}
 use Rattle.join.specs.Program.{Edge, Dispatch, joinAddress}
 use Rattle.join_laws.specs.Push.{pushed}
 use Rattle.join_laws.specs.Active.{on, anyActive, activePlain, activeDispatch, NoSyscall}

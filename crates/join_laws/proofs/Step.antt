@@ -15,10 +15,10 @@ use Rattle.btor2.specs.declared.NodeType.the-variants.{Bit as B1}
 use Rattle.btor2.specs.Op.{Op, and, ite, eq, stateInit, next, mapOp}
 use Rattle.btor2.specs.Value.{Value, Env, evalOp, value}
 use Rattle.btor2.proofs.Value.{value-kept}
-use Rattle.program.specs.Prog.{Prog, done, line, _>>=_, Run, ran, exec}
-use Rattle.program.specs.OneLine.{newIte, newAndBit}
-use Rattle.program.proofs.Exec.{exec-bind}
-use Rattle.control_flow.specs.ControlFlow.{Bits, Kernel, controlFlowFromAny, controlFlowFromRegular, controlFlowFromBranch, controlFlowFromEcall, controlFlowFromJalr}
+use Rattle.builder.specs.Prog.{Prog, done, line, _>>=_, Run, ran, exec}
+use Rattle.builder.specs.OneLine.{newIte, newAndBit}
+use Rattle.builder.proofs.Exec.{exec-bind}
+use Rattle.join.specs.ControlFlow.{Bits, Kernel, controlFlowFromAny, controlFlowFromRegular, controlFlowFromBranch, controlFlowFromEcall, controlFlowFromJalr}
 use Rattle.join_laws.specs.Push.{push, pushed}
 use Rattle.join_laws.specs.Active.{on}
 use Rattle.join_laws.proofs.Sound.{Bit, KnownBits}

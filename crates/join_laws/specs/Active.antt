@@ -8,7 +8,7 @@ use lib.ListN.{length}
 use Rattle.btor2.specs.Op.{Op}
 use Rattle.btor2.specs.Value.{Env, value}
 use Rattle.edges.specs.Edges.{branchOrigin, syscallOrigin}
-use Rattle.control_flow.specs.ControlFlow.{Bits, Kernel}
+use Rattle.join.specs.ControlFlow.{Bits, Kernel}
 use Rattle.join.specs.Program.{Edge, Dispatch, edgeName, fromEdge}
 use Rattle.join_laws.specs.Push.{pushed}
 

@@ -11,12 +11,12 @@ use Rattle.btor2.specs.Value.{Env, value}
 use Rattle.btor2_list.specs.Record.{wordsFor}
 use Rattle.btor2_list.specs.View.{view}
 use Rattle.list_check.specs.Lines.{any}
-use Rattle.program.specs.Lines.{linesOf, placeAfter}
+use Rattle.builder.specs.Lines.{linesOf, placeAfter}
 use Rattle.lowering_laws.specs.Elsewhere.{Elsewhere}
 use Rattle.lowering_laws.specs.Lines.{numbered, taking}
 use Rattle.meaning.specs.Lines.{operators}
-use Rattle.roles.specs.Roles.{role, zeroBit, oneBit, roleCount, registerNode}
-use Rattle.roles_check.specs.RolesFit.{rolesFit}
+use Rattle.state.specs.Roles.{role, zeroBit, oneBit, roleCount, registerNode}
+use Rattle.state.specs.RolesFit.{rolesFit}
 use Rattle.join.specs.Program.{namesOf}
 use Rattle.join.specs.Given.{dynamicFor}
 use Rattle.join.specs.declared.JoinHeld.{JoinHeld}

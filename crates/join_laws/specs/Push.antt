@@ -3,7 +3,7 @@ use Prim.Native.Nat.{ℕ}
 use mathlib.Core.List.{List, [], _∷_, _++_}
 use lib.ListN.{length}
 use Rattle.btor2.specs.Op.{Op}
-use Rattle.program.specs.Prog.{Prog, Run, ran, exec}
+use Rattle.builder.specs.Prog.{Prog, Run, ran, exec}
 
 abbrev pub push : List (Op ℕ) → Op ℕ → Run (List (Op ℕ)) ℕ
 push xs o = ran (xs ++ (o ∷ [])) (length xs)

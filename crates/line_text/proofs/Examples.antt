@@ -6,8 +6,8 @@ use Rattle.btor2.specs.Op.{const, not, mapOp}
 use Rattle.btor2_list.specs.Node.{node}
 use Rattle.text.specs.Numeral.{numeral}
 use Rattle.text.specs.Ascii.{ascii}
-use Rattle.node_text.specs.Row.{rowText}
-use Rattle.record_text.specs.Line.{lineText}
+use Rattle.row_text.specs.Row.{rowText}
+use Rattle.line_text.specs.Record.{lineText}
 use Rattle.line_text.specs.Line.{nodesText, runText}
 
 -- places and identifiers are kept apart: the operand at place 0 is printed as 20

@@ -1,3 +1,5 @@
 pub mod Listed
 pub mod Runs
 mod Examples
+pub mod KnownKinds
+mod RecordExamples

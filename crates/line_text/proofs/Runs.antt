@@ -9,7 +9,7 @@ use lib.ListN.{length, drop-of-length-le, List·getD-eq-default}
 use lib.Seq.{drop-cons, take-nil}
 use Rattle.btor2.specs.Op.{unknown, mapOp}
 use Rattle.btor2_list.specs.Node.{Node, node}
-use Rattle.record_text.specs.Line.{lineText}
+use Rattle.line_text.specs.Record.{lineText}
 use Rattle.line_text.specs.Line.{nodeAt, nodeText, nodesText, runText}
 
 module _ (host ours : List ℕ) (ns : List Node) where

@@ -6,7 +6,7 @@ use Rattle.btor2.specs.Op.{unknown, mapOp}
 use Rattle.btor2_list.specs.Record.{capacity}
 use Rattle.btor2_list.specs.Node.{Node, node}
 use Rattle.btor2_list.specs.View.{view}
-use Rattle.record_text.specs.Line.{lineText, printedName}
+use Rattle.line_text.specs.Record.{lineText, printedName}
 
 -- the lines of a list of n lines, as far as the lent words reach
 abbrev pub nodes : List ℕ → ℕ → List Node

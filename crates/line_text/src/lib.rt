@@ -1,4 +1,6 @@
 // Node lines of a list as text, one or a run of them.
+mod record;
+
 use btor2::Nid;
 use btor2::NodeRef;
 use btor2_list::Found;
@@ -33,11 +35,11 @@ fn put_found<'a>(
     let a = nid_at(list, lines, line.op1);
     let b = nid_at(list, lines, line.op2);
     let c = nid_at(list, lines, line.op3);
-    record_text::put_record(out, at, line, a, b, c, host, ours)
+    record::put_record(out, at, line, a, b, c, host, ours)
 }
 
 // The line at a place of a list of `lines` lines; nothing where there is none.
-pub fn put_line<'a>(
+fn put_line<'a>(
     out: &mut [u8],
     at: usize,
     list: &[u64],

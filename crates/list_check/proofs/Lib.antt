@@ -3,3 +3,4 @@ pub mod Formed
 pub mod Scan
 pub mod ByKind
 pub mod Plain
+pub mod Lines

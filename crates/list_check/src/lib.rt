@@ -1,4 +1,6 @@
 // The checks over a whole list of lines: refusal 11.
+mod operands;
+
 use btor2::BIT;
 use btor2::MEMORY;
 use btor2::MaybeSort;
@@ -16,6 +18,7 @@ use btor2_list::DIVU;
 use btor2_list::EQ;
 use btor2_list::EXT;
 use btor2_list::Found;
+use btor2_list::HOST_AREA;
 use btor2_list::INPUT;
 use btor2_list::ITE;
 use btor2_list::Line;
@@ -23,6 +26,7 @@ use btor2_list::MUL;
 use btor2_list::NEXT;
 use btor2_list::NOT;
 use btor2_list::OR;
+use btor2_list::OUR_AREA;
 use btor2_list::READ;
 use btor2_list::REM;
 use btor2_list::SLL;
@@ -35,8 +39,7 @@ use btor2_list::capacity;
 use btor2_list::get;
 use btor2_list::is_named;
 use btor2_list::kind_at;
-use btor2_name::HOST;
-use btor2_name::OURS;
+pub use operands::broken;
 ghost use mathlib.Core.Path.{_≡_};
 ghost use mathlib.Core.Bool.{true, false, cond, not, _&&_, _||_};
 ghost use lib.Dec.{eqb, ltb};
@@ -249,10 +252,10 @@ fn name_out(name: Name, host: usize, ours: usize) -> bool
     if area == 0 {
         return false;
     }
-    if area == HOST {
+    if area == HOST_AREA {
         return past(host, name.at, name.len);
     }
-    if area == OURS {
+    if area == OUR_AREA {
         return past(ours, name.at, name.len);
     }
     true

@@ -27,15 +27,15 @@ use Rattle.riscv.specs.Kind.{Kind, kindAt}
 use Rattle.riscv.proofs.EachKind.{zeros, everyCase, by-case}
 use Rattle.text.specs.BadName.{badName}
 use Rattle.text.proofs.Laws.{bad-name-length}
-use Rattle.lowering_refusals.specs.declared.Counts.{Counts}
-use Rattle.lowering_refusals.specs.declared.Room.{Room}
-use Rattle.lowering_refusals.specs.declared.State.{State}
+use Rattle.state.specs.declared.Counts.{Counts}
+use Rattle.state.specs.declared.room.Room.{Room}
+use Rattle.state.specs.declared.State.{State}
 use Rattle.lowering_refusals.specs.Refusal.{needsOf, needs, roomOut, refusalOf}
 use Rattle.btor2_list.specs.Limits.{mostLines}
-use Rattle.btor2_name.specs.NameBytes.{ourArea}
-use Rattle.lowering_lines.specs.Lines.{nameFor, programWith}
+use Rattle.btor2_list.specs.NameBytes.{ourArea}
+use Rattle.lowering.specs.Lines.{nameFor, programWith}
 use Rattle.lowering.specs.Lowering.{Lent, Answer, programOf, countsAfter, settled, roomIn, refused, loweringGiven, lowering}
-use Rattle.program.specs.Lines.{linesOf, placeAfter}
+use Rattle.builder.specs.Lines.{linesOf, placeAfter}
 use Rattle.lowering_laws.specs.Lines.{numbered}
 use Rattle.lowering_laws.specs.Accepted.{growth}
 use Rattle.lowering_laws.proofs.EachKind.{reading, reads}
@@ -50,24 +50,24 @@ pub record Small (n : Room) : Type 0 where
   pub edges : n .edges ≤ mostEdges
   pub dispatches : n .dispatches ≤ mostDispatches
 
-small-of : (c : Class) (n : ℕ) (z d s : Bool) (pc : ℕ)
-    → Small (record { lines = countOf c n (zeros z d s); names = cond (hasBad c (zeros z d s)) (length (badName pc)) 0; edges = edgeCount c; dispatches = cond (hasDispatch c (zeros z d s)) 1 0; bads = cond (hasBad c (zeros z d s)) 1 0 })
-small-of Plain n z d s pc = record { badLines = omega arith; nameBytes = omega arith; edges = omega arith; dispatches = omega arith }
-small-of Access n z d s pc = record { badLines = omega arith; nameBytes = omega arith; edges = omega arith; dispatches = omega arith }
-small-of Addi n z d s pc = record { badLines = omega arith; nameBytes = omega arith; edges = omega arith; dispatches = omega arith }
-small-of Branch n z d s pc = record { badLines = omega arith; nameBytes = omega arith; edges = omega arith; dispatches = omega arith }
-small-of Jal n z d s pc = record { badLines = omega arith; nameBytes = omega arith; edges = omega arith; dispatches = omega arith }
-small-of Jalr n z d true pc = record { badLines = omega arith; nameBytes = omega (arith, bad-name-length pc); edges = omega arith; dispatches = omega arith }
-small-of Jalr n z d false pc = record { badLines = omega arith; nameBytes = omega arith; edges = omega arith; dispatches = omega arith }
-small-of Ecall n z d s pc = record { badLines = omega arith; nameBytes = omega arith; edges = omega arith; dispatches = omega arith }
+small-of : (c : Class) (n : ℕ) (z d s : Bool) (address : ℕ)
+    → Small (record { lines = countOf c n (zeros z d s); names = cond (hasBad c (zeros z d s)) (length (badName address)) 0; edges = edgeCount c; dispatches = cond (hasDispatch c (zeros z d s)) 1 0; bads = cond (hasBad c (zeros z d s)) 1 0 })
+small-of Plain n z d s address = record { badLines = omega arith; nameBytes = omega arith; edges = omega arith; dispatches = omega arith }
+small-of Access n z d s address = record { badLines = omega arith; nameBytes = omega arith; edges = omega arith; dispatches = omega arith }
+small-of Addi n z d s address = record { badLines = omega arith; nameBytes = omega arith; edges = omega arith; dispatches = omega arith }
+small-of Branch n z d s address = record { badLines = omega arith; nameBytes = omega arith; edges = omega arith; dispatches = omega arith }
+small-of Jal n z d s address = record { badLines = omega arith; nameBytes = omega arith; edges = omega arith; dispatches = omega arith }
+small-of Jalr n z d true address = record { badLines = omega arith; nameBytes = omega (arith, bad-name-length address); edges = omega arith; dispatches = omega arith }
+small-of Jalr n z d false address = record { badLines = omega arith; nameBytes = omega arith; edges = omega arith; dispatches = omega arith }
+small-of Ecall n z d s address = record { badLines = omega arith; nameBytes = omega arith; edges = omega arith; dispatches = omega arith }
 
-pub small : (i : Instruction) (pc : ℕ) → Small (needs i pc)
+pub small : (i : Instruction) (address : ℕ) → Small (needs i address)
 unfolding needsOf
-small i pc = let k = kindAt (i .kind) in let z = zerosOf i in small-of (class k) (plainCount k) (z .imm) (z .rd) (z .rs1) pc
+small i address = let k = kindAt (i .kind) in let z = zerosOf i in small-of (class k) (plainCount k) (z .imm) (z .rd) (z .rs1) address
 
-pub lines-needed : (i : Instruction) (pc : ℕ) → needs i pc .lines ≡ growth i
+pub lines-needed : (i : Instruction) (address : ℕ) → needs i address .lines ≡ growth i
 unfolding needsOf
-lines-needed i pc = refl
+lines-needed i address = refl
 
 -- ---- refusal 8
 
@@ -122,29 +122,29 @@ module _ {A : Type 0} (place : ℕ → A) (e : Operands A) (f : Flows A) (r m : 
   unfolding rows
   row-each k z = is-true _ (by-case rows all-rows k z)
 
-name-short : (c : Class) (z : Zeros) (names pc : ℕ) → leb (nameFor c z names pc .len) longestName ≡ true
-name-short c z names pc = go (hasBad c z)
+name-short : (c : Class) (z : Zeros) (names address : ℕ) → leb (nameFor c z names address .len) longestName ≡ true
+name-short c z names address = go (hasBad c z)
   where
-    go : (b : Bool) → leb ((cond b (record { area = ourArea; at = names; len = length (badName pc) }) noName) .len) longestName ≡ true
-    go true = le-leb (length (badName pc)) longestName (bad-name-length pc)
+    go : (b : Bool) → leb ((cond b (record { area = ourArea; at = names; len = length (badName address) }) noName) .len) longestName ≡ true
+    go true = le-leb (length (badName address)) longestName (bad-name-length address)
     go false = refl
 
-rows-of : (st : State) (i : Instruction) (pc : ℕ) (flag : NodeRef) (place : ℕ → ℕ) → oneRowEach (linesOf place 0 (programOf st i pc flag)) ≡ true
+rows-of : (st : State) (i : Instruction) (address : ℕ) (flag : NodeRef) (place : ℕ → ℕ) → oneRowEach (linesOf place 0 (programOf st i address flag)) ≡ true
 unfolding programOf programWith
-rows-of st i pc flag place =
+rows-of st i address flag place =
     let k = kindAt (i .kind) in
     sym (ap (λ r. oneRowEach (r .lines)) (reads place _ _ _ _ _ _ k _))
-    ∙ row-each place _ _ _ _ _ _ (name-short (class k) (zerosOf i) (st .counts .names) pc) k _
+    ∙ row-each place _ _ _ _ _ _ (name-short (class k) (zerosOf i) (st .counts .names) address) k _
 
 -- ---- one call
 
 -- an accepted call: its lines, and that nothing that is lent changes its length
-pub record Grown (l : Lent) (st : State) (i : Instruction) (pc : ℕ) (a : Answer) : Type 0 where
+pub record Grown (l : Lent) (st : State) (i : Instruction) (address : ℕ) (a : Answer) : Type 0 where
   pub refusal : a .lowered .refusal ≡ 0
-  pub lines : a .lowered .state .tally .lines ≡ st .tally .lines + needs i pc .lines
-  pub most : needs i pc .lines ≤ 35
-  pub held : st .tally .lines + needs i pc .lines ≤ capacity (length (l .list))
-  pub counts : a .lowered .state .counts ≡ countsAfter (st .counts) (needs i pc)
+  pub lines : a .lowered .state .tally .lines ≡ st .tally .lines + needs i address .lines
+  pub most : needs i address .lines ≤ 35
+  pub held : st .tally .lines + needs i address .lines ≤ capacity (length (l .list))
+  pub counts : a .lowered .state .counts ≡ countsAfter (st .counts) (needs i address)
   pub list : length (a .lent .list) ≡ length (l .list)
   pub names : length (a .lent .names) ≡ length (l .names)
   pub edges : length (a .lent .edges) ≡ length (l .edges)
@@ -154,43 +154,43 @@ pub record Grown (l : Lent) (st : State) (i : Instruction) (pc : ℕ) (a : Answe
   pub rows : oneRowEach ops ≡ true
   pub nodes : view (a .lent .list) (a .lowered .state .tally .lines) ≡ view (l .list) (st .tally .lines) ++ numbered (st .tally .nid) ops
 
-pub data OneCall (l : Lent) (st : State) (i : Instruction) (pc : ℕ) : Answer → Type 0 where
-  stays : (n : ℕ) → (n ≡ 0 → ⊥) → OneCall l st i pc (refused n l st)
-  grows : {a : Answer} → Grown l st i pc a → OneCall l st i pc a
+pub data OneCall (l : Lent) (st : State) (i : Instruction) (address : ℕ) : Answer → Type 0 where
+  stays : (n : ℕ) → (n ≡ 0 → ⊥) → OneCall l st i address (refused n l st)
+  grows : {a : Answer} → Grown l st i address a → OneCall l st i address a
 
-module _ (l : Lent) (st : State) (i : Instruction) (pc : ℕ) (flag : NodeRef) where
+module _ (l : Lent) (st : State) (i : Instruction) (address : ℕ) (flag : NodeRef) where
   abbrev refusalNumber : ℕ
-  refusalNumber = refusalOf (l .list) (roomIn l) st i pc (flag .0)
+  refusalNumber = refusalOf (l .list) (roomIn l) st i address (flag .0)
 
-  counts-after : refusalNumber ≡ 0 → lowering l st i pc flag .lowered .state .counts ≡ countsAfter (st .counts) (needs i pc)
+  counts-after : refusalNumber ≡ 0 → lowering l st i address flag .lowered .state .counts ≡ countsAfter (st .counts) (needs i address)
   unfolding loweringGiven settled
   counts-after e = rw e
 
-  grown : refusalNumber ≡ 0 → Grown l st i pc (lowering l st i pc flag)
+  grown : refusalNumber ≡ 0 → Grown l st i address (lowering l st i address flag)
   grown e =
-      let a = when-accepted l st i pc flag e in
-      let n = lines-needed i pc in
+      let a = when-accepted l st i address flag e in
+      let n = lines-needed i address in
       record {
         refusal = a .refusal;
         lines = omega (arith, a .lines, n);
         most = omega (arith, a .most, n);
-        held = omega (arith, room l st i pc flag e .lines, n);
+        held = omega (arith, room l st i address flag e .lines, n);
         counts = counts-after e;
         list = a .list .size;
         names = a .names .size;
         edges = a .edges .size;
         dispatches = a .dispatches .size;
         bads = a .bads .size;
-        ops = linesOf (placeAfter (st .tally .lines)) 0 (programOf st i pc flag);
-        rows = rows-of st i pc flag (placeAfter (st .tally .lines));
+        ops = linesOf (placeAfter (st .tally .lines)) 0 (programOf st i address flag);
+        rows = rows-of st i address flag (placeAfter (st .tally .lines));
         nodes = a .nodes;
       }
 
-  pub one-call : OneCall l st i pc (lowering l st i pc flag)
+  pub one-call : OneCall l st i address (lowering l st i address flag)
   one-call = go (eqb refusalNumber 0) refl
     where
-      go : (b : Bool) → eqb refusalNumber 0 ≡ b → OneCall l st i pc (lowering l st i pc flag)
+      go : (b : Bool) → eqb refusalNumber 0 ≡ b → OneCall l st i address (lowering l st i address flag)
       go true e = grows (grown (eqb-true refusalNumber 0 e))
       go false e =
           let h = eqb-false refusalNumber 0 e in
-          subst (OneCall l st i pc) (sym (when-refused l st i pc flag h)) (stays refusalNumber h)
+          subst (OneCall l st i address) (sym (when-refused l st i address flag h)) (stays refusalNumber h)

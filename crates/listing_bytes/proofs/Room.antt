@@ -8,13 +8,14 @@ use lib.Dec.{ltb}
 use lib.ListN.{length, replicate, drop, length-replicate, length-append, length-drop}
 use Rattle.bitvec.proofs.Base.{by-le}
 use Rattle.btor2_list.specs.Record.{capacity, wordsFor}
-use Rattle.listing_line.specs.declared.Parsed.{Parsed}
-use Rattle.listing_line.specs.declared.Parsed.the-variants.{Instruction as Instr, Malformed}
-use Rattle.listing_line.specs.Line.{parseLine}
+use Rattle.listing_input.specs.declared.line.Parsed.{Parsed}
+use Rattle.listing_input.specs.declared.line.Parsed.the-variants.{Instruction as Instr, Malformed}
+use Rattle.listing_input.specs.Line.{parseLine}
 use Rattle.listing_start.specs.Start.{startLines, startNames, concat, startName, namedStates, startOps, records, startWords, startIn, startState}
 use Rattle.riscv.specs.declared.Instruction.{Instruction}
-use Rattle.lowering_refusals.specs.declared.State.{State}
-use Rattle.lowering_refusals.specs.Refusal.{needs, roomOf, roomOut}
+use Rattle.state.specs.declared.State.{State}
+use Rattle.lowering_refusals.specs.Refusal.{needs, roomOut}
+use Rattle.state.specs.Room.{roomOf}
 use Rattle.lowering.specs.Lowering.{Lent, Answer, countsAfter, roomIn}
 use Rattle.edges.specs.Edges.{edgeStride, dispatchStride}
 use Rattle.listing_bytes.specs.Step.{emptied, parsedStep, step}
@@ -78,11 +79,11 @@ emptied-kept l st k = record {
   nameBytes = k .nameBytes;
 }
 
-pub call-kept : (l : Lent) (st : State) (i : Instruction) (pc : ℕ) {a : Answer} → Kept l st → OneCall l st i pc a → Kept (a .lent) (a .lowered .state)
+pub call-kept : (l : Lent) (st : State) (i : Instruction) (address : ℕ) {a : Answer} → Kept l st → OneCall l st i address a → Kept (a .lent) (a .lowered .state)
 unfolding countsAfter
-call-kept l st i pc k (stays n h) = k
-call-kept l st i pc {a} k (grows g) =
-    let s = small i pc in
+call-kept l st i address k (stays n h) = k
+call-kept l st i address {a} k (grows g) =
+    let s = small i address in
     let c = g .counts in
     record {
       list = g .list ∙ k .list;
@@ -114,13 +115,13 @@ reached-kept lines = steps-kept _ lines startLent startState start-kept
 
 -- ---- refusal 8
 
-module _ (l : Lent) (st : State) (k : Kept l st) (i : Instruction) (pc : ℕ) where
+module _ (l : Lent) (st : State) (k : Kept l st) (i : Instruction) (address : ℕ) where
   lines-decide-here : let e = emptied st in
-      roomOut (roomIn l) (e .tally) (e .counts) (needs i pc) ≡ ltb listingLines (e .tally .lines + needs i pc .lines)
+      roomOut (roomIn l) (e .tally) (e .counts) (needs i address) ≡ ltb listingLines (e .tally .lines + needs i address .lines)
   unfolding roomOf emptied
   lines-decide-here =
-      let n = needs i pc in
-      let s = small i pc in
+      let n = needs i address in
+      let s = small i address in
       let e = emptied st in
       by-le (st .tally .lines + n .lines) listingLines
       (λ h.

@@ -18,16 +18,16 @@ use Rattle.btor2_list.specs.View.{view}
 use Rattle.btor2_list.proofs.View.{view-length}
 use Rattle.line_text.specs.Line.{nidAt, nodes, nodesText, runText}
 use Rattle.text.specs.Ascii.{ascii}
-use Rattle.node_text.specs.Row.{nameText, numbersText, rowText}
-use Rattle.record_text.specs.Line.{binWord, lineText, printedName}
+use Rattle.row_text.specs.Row.{nameText, numbersText, rowText}
+use Rattle.line_text.specs.Record.{binWord, lineText, printedName}
 use Rattle.text.proofs.Laws.{numeral-length, put-is}
-use Rattle.listing_line.specs.declared.Parsed.{Parsed}
-use Rattle.listing_line.specs.declared.Parsed.the-variants.{Instruction as Instr, Malformed}
-use Rattle.listing_line.specs.Line.{parseLine}
+use Rattle.listing_input.specs.declared.line.Parsed.{Parsed}
+use Rattle.listing_input.specs.declared.line.Parsed.the-variants.{Instruction as Instr, Malformed}
+use Rattle.listing_input.specs.Line.{parseLine}
 use Rattle.listing_start.specs.Start.{hostArea}
 use Rattle.listing_text.specs.Remarks.{originWord, conditionText, edgeText, dispatchText, refusedText, edgeTextAt, edgesText, dispatchTextAt, dispatchesText}
 use Rattle.riscv.specs.declared.Instruction.{Instruction}
-use Rattle.lowering_refusals.specs.declared.State.{State}
+use Rattle.state.specs.declared.State.{State}
 use Rattle.lowering.specs.Lowering.{Lent, Answer, countsAfter}
 use Rattle.lowering_laws.specs.Lines.{numbered}
 use Rattle.listing_bytes.specs.Step.{emptied, appendedText, answerText, parsedStep, step}
@@ -158,9 +158,9 @@ refused-most line number = simp length-append (omega (arith, numeral-length 10 2
 
 -- ---- a call's answer
 
-module _ (l : Lent) (st : State) (i : Instruction) (pc : ℕ) (none : (st .counts .edges ≡ 0) × (st .counts .dispatches ≡ 0)) where
+module _ (l : Lent) (st : State) (i : Instruction) (address : ℕ) (none : (st .counts .edges ≡ 0) × (st .counts .dispatches ≡ 0)) where
   -- the lines that are printed are the call's own
-  run-most : {a : Answer} → Grown l st i pc a
+  run-most : {a : Answer} → Grown l st i address a
       → length (runText hostArea (a .lent .names) (nodes (a .lent .list) (a .lowered .state .tally .lines)) (st .tally .lines) (a .lowered .state .tally .lines - st .tally .lines)) ≤ mostRow * 35
   run-most {a} g =
       let ns = nodes (a .lent .list) (a .lowered .state .tally .lines) in
@@ -172,18 +172,18 @@ module _ (l : Lent) (st : State) (i : Instruction) (pc : ℕ) (none : (st .count
       let e = ap (λ (x : List Node). length (nodesText hostArea (a .lent .names) ns (take grown x))) own in
       omega (arith, e, rows-most hostArea (a .lent .names) ns grown (st .tally .nid) (g .ops) (g .rows), g .lines, g .most)
 
-  appended-most : {a : Answer} → Grown l st i pc a → length (appendedText (st .tally .lines) (a .lent) (a .lowered .state)) ≤ outRoom
+  appended-most : {a : Answer} → Grown l st i address a → length (appendedText (st .tally .lines) (a .lent) (a .lowered .state)) ≤ outRoom
   unfolding appendedText countsAfter
   appended-most {a} g =
       let ns = nodes (a .lent .list) (a .lowered .state .tally .lines) in
-      let s = small i pc in
+      let s = small i address in
       let c = g .counts in
       let edges : a .lowered .state .counts .edges ≤ 2 = rw c (omega (arith, none .0, s .edges)) in
       let dispatches : a .lowered .state .counts .dispatches ≤ 1 = rw c (omega (arith, none .1, s .dispatches)) in
       simp length-append
       (omega (arith, run-most g, edges-most ns (a .lent .edges) (a .lowered .state .counts .edges), dispatches-most (a .lent .dispatches) (a .lowered .state .counts .dispatches)))
 
-  answer-most : (number : ℕ) {a : Answer} → OneCall l st i pc a → length (answerText number (st .tally .lines) a) ≤ outRoom
+  answer-most : (number : ℕ) {a : Answer} → OneCall l st i address a → length (answerText number (st .tally .lines) a) ≤ outRoom
   unfolding answerText
   answer-most number (stays n h) = rw (ne-eqb n 0 h) (omega (arith, refused-most number n))
   answer-most number (grows g) = rw (eq-eqb _ 0 (g .refusal)) (appended-most g)

@@ -12,10 +12,10 @@ use lib.ListN.{length, take, set, length-append, length-take, length-set}
 use lib.Seq.{take-nil, take-all, take-append-le, take-suc-set, set-out}
 use Rattle.bitvec.proofs.Base.{by-le}
 use Rattle.listing_input.specs.Gather.{newlineByte}
-use Rattle.listing_line.specs.Line.{parseLine}
+use Rattle.listing_input.specs.Line.{parseLine}
 use Rattle.listing_start.specs.Start.{concat}
 use Rattle.lowering.specs.Lowering.{Lent}
-use Rattle.lowering_refusals.specs.declared.State.{State}
+use Rattle.state.specs.declared.State.{State}
 use Rattle.listing_bytes.specs.Step.{Step, step}
 use Rattle.listing_bytes.specs.Storage.{lineRoom}
 use Rattle.listing_bytes.specs.Listing.{lastLine, linesFrom, steps, reached, listing}

@@ -6,7 +6,7 @@ use lib.Dec.{ltb}
 use lib.ListN.{length, take}
 use Rattle.listing_start.specs.Start.{concat}
 use Rattle.lowering.specs.Lowering.{Lent, roomIn}
-use Rattle.lowering_refusals.specs.declared.State.{State}
+use Rattle.state.specs.declared.State.{State}
 use Rattle.lowering_refusals.specs.Refusal.{needs, roomOut}
 use Rattle.text.specs.Put.{Put}
 use Rattle.riscv.specs.declared.Instruction.{Instruction}

@@ -6,7 +6,7 @@ use lib.Dec.{eqb}
 use Rattle.listing_input.specs.Gather.{newlineByte}
 use Rattle.listing_start.specs.Start.{startState}
 use Rattle.lowering.specs.Lowering.{Lent}
-use Rattle.lowering_refusals.specs.declared.State.{State}
+use Rattle.state.specs.declared.State.{State}
 use Rattle.listing_bytes.specs.Step.{Step, step}
 use Rattle.listing_bytes.specs.Storage.{startLent}
 

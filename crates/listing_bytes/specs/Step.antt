@@ -5,13 +5,13 @@ use mathlib.Core.List.{List, _++_}
 use lib.Dec.{eqb}
 use Rattle.btor2_list.specs.Node.{Node}
 use Rattle.line_text.specs.Line.{nodes, runText}
-use Rattle.listing_line.specs.declared.Parsed.{Parsed}
-use Rattle.listing_line.specs.declared.Parsed.the-variants.{Instruction, Malformed}
-use Rattle.listing_line.specs.Line.{parseLine}
+use Rattle.listing_input.specs.declared.line.Parsed.{Parsed}
+use Rattle.listing_input.specs.declared.line.Parsed.the-variants.{Instruction, Malformed}
+use Rattle.listing_input.specs.Line.{parseLine}
 use Rattle.listing_start.specs.Start.{placed, hostArea}
 use Rattle.listing_text.specs.Remarks.{edgesText, dispatchesText, refusedText}
 use Rattle.lowering.specs.Lowering.{Lent, Answer, lowering}
-use Rattle.lowering_refusals.specs.declared.State.{State}
+use Rattle.state.specs.declared.State.{State}
 
 -- what a line of input gives: the state and the lent lists after it, and its output
 pub record Step : Type 0 where

@@ -8,8 +8,8 @@ use native.Mathlib.Omega.{arith}
 use lib.ListN.{length, take, drop, length-drop, drop-of-length-le}
 use lib.Seq.{take-all}
 use borrow.Author.Tests.{lt-ltb, le-ltb}
-use Rattle.listing_line.specs.Text.{before}
-use Rattle.listing_line.proofs.Steps.{before-le}
+use Rattle.listing_input.specs.Text.{before}
+use Rattle.listing_input.proofs.Steps.{before-le}
 use Rattle.listing_input.specs.Gather.{lineBytes, lineEnds, lineNext}
 
 -- r is what a search among the bytes from `from` on gave

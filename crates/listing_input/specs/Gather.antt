@@ -4,7 +4,7 @@ use mathlib.Core.Bool.{Bool, cond}
 use mathlib.Core.List.{List}
 use lib.Dec.{ltb}
 use lib.ListN.{length, take, drop}
-use Rattle.listing_line.specs.Text.{before}
+use Rattle.listing_input.specs.Text.{before}
 
 -- the byte that ends a line
 abbrev pub newlineByte : ℕ

@@ -1,1 +1,5 @@
 pub mod Gather
+pub mod Text
+pub mod Kinds
+pub mod Line
+pub mod Parts

@@ -1,5 +1,9 @@
 // A line of input, gathered from the pieces that are read.
-use listing_line::up_to;
+mod line;
+
+pub use line::Parsed;
+pub use line::parse;
+use line::up_to;
 ghost use mathlib.Core.Path.{_≡_};
 ghost use Prim.Native.Nat.{_<_};
 ghost use lib.ListN.{length};

@@ -18,9 +18,9 @@ use Rattle.list_check.specs.Lines.{ops, some}
 use Rattle.list_check.specs.Formed.{opUnformed, unformed}
 use Rattle.nid_check.specs.Identifiers.{taken, rising, nidsOut}
 use Rattle.riscv.specs.Refusal.{first}
-use Rattle.roles_check.specs.RolesFit.{rolesFit}
-use Rattle.lowering_refusals.specs.declared.Room.{Room}
-use Rattle.lowering_refusals.specs.Refusal.{roomOf, countsOut}
+use Rattle.state.specs.RolesFit.{rolesFit}
+use Rattle.state.specs.declared.room.Room.{Room}
+use Rattle.state.specs.Room.{roomOf, countsOut}
 use Rattle.btor2_list.specs.Limits.{mostStartNid}
 use Rattle.lowering_laws.specs.Lines.{numbered}
 use Rattle.start.specs.Start.{startRefusal}

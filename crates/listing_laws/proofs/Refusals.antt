@@ -22,19 +22,20 @@ use Rattle.listing_bytes.specs.Storage.{listingLines, startLent}
 use Rattle.listing_bytes.specs.Listing.{steps, reached}
 use Rattle.listing_bytes.proofs.Room.{Kept, zeros, start-kept, emptied-kept, call-kept, lines-decide}
 use Rattle.listing_bytes.proofs.Core.{one-call}
-use Rattle.listing_line.specs.declared.Parsed.{Parsed}
-use Rattle.listing_line.specs.declared.Parsed.the-variants.{Instruction as Instr, Malformed}
-use Rattle.listing_line.specs.Line.{parseLine}
+use Rattle.listing_input.specs.declared.line.Parsed.{Parsed}
+use Rattle.listing_input.specs.declared.line.Parsed.the-variants.{Instruction as Instr, Malformed}
+use Rattle.listing_input.specs.Line.{parseLine}
 use Rattle.listing_start.specs.Start.{firstNid, startLines, placed, startNames, concat, startName, namedStates, startOps, startIn, startState}
-use Rattle.lowering_refusals.specs.declared.State.{State}
-use Rattle.lowering_refusals.specs.Refusal.{roomOf, countsOut, flagOut, refusalGiven, refusalOf}
+use Rattle.state.specs.declared.State.{State}
+use Rattle.lowering_refusals.specs.Refusal.{flagOut, refusalGiven, refusalOf}
+use Rattle.state.specs.Room.{roomOf, countsOut}
 use Rattle.btor2_list.specs.Limits.{mostLines, mostNid}
 use Rattle.lowering.specs.Lowering.{Lent, roomIn, lowering}
 use Rattle.lowering_laws.specs.Lines.{numbered}
 use Rattle.lowering_laws.proofs.OneCall.{when-accepted, when-refused}
 use Rattle.riscv.specs.declared.Instruction.{Instruction}
 use Rattle.riscv.specs.Kind.{kindAt}
-use Rattle.roles_check.specs.RolesFit.{valueSort, rolesFit}
+use Rattle.state.specs.RolesFit.{valueSort, rolesFit}
 use Rattle.roles_kept.proofs.Call.{called, refusal-is, roled-after, roles-keep}
 use Rattle.listing_laws.specs.Refusals.{OwnNumberOrFull}
 use Rattle.listing_laws.proofs.Accepted.{lines-put, roles-put, given}
@@ -80,17 +81,17 @@ start-sound =
 
 -- ---- a call
 
-module _ (l : Lent) (st : State) (s : Sound l st) (i : Instruction) (pc : ℕ) where
-  accepted-sound : refusalOf (l .list) (roomIn l) st i pc (flag .0) ≡ 0 → Sound (lowering l st i pc flag .lent) (lowering l st i pc flag .lowered .state)
+module _ (l : Lent) (st : State) (s : Sound l st) (i : Instruction) (address : ℕ) where
+  accepted-sound : refusalOf (l .list) (roomIn l) st i address (flag .0) ≡ 0 → Sound (lowering l st i address flag .lent) (lowering l st i address flag .lowered .state)
   accepted-sound e =
-      let a = when-accepted l st i pc flag e in
-      let kept = call-kept l st i pc (s .kept) (one-call l st i pc flag) in
+      let a = when-accepted l st i address flag e in
+      let kept = call-kept l st i address (s .kept) (one-call l st i address flag) in
       record {
         kept = kept;
         begun = omega (arith, a .lines, s .begun);
         nids = omega (arith, a .lines, a .nids, s .nids);
-        size = roled-after (called l st i pc flag) (record { size = s .size; passed = e }) .size;
-        roles = roles-keep l st i pc flag (s .size) (a .refusal);
+        size = roled-after (called l st i address flag) (record { size = s .size; passed = e }) .size;
+        roles = roles-keep l st i address flag (s .size) (a .refusal);
         bit =
             ap valueSort (look-line _ _ (held _ _ kept) (flag .0) nowhere (omega (arith, a .lines, s .begun)))
             ∙ ap (λ (v : List Node). valueSort (seen (getD v (flag .0) nowhere))) (a .nodes)
@@ -98,12 +99,12 @@ module _ (l : Lent) (st : State) (s : Sound l st) (i : Instruction) (pc : ℕ) w
             ∙ sym (ap valueSort (look-line (l .list) (st .tally .lines) (held l st (s .kept)) (flag .0) nowhere (omega (arith, s .begun)))) ∙ s .bit;
       }
 
-  call-sound : Sound (lowering l st i pc flag .lent) (lowering l st i pc flag .lowered .state)
-  call-sound = go (eqb (refusalOf (l .list) (roomIn l) st i pc (flag .0)) 0) refl
+  call-sound : Sound (lowering l st i address flag .lent) (lowering l st i address flag .lowered .state)
+  call-sound = go (eqb (refusalOf (l .list) (roomIn l) st i address (flag .0)) 0) refl
     where
-      go : (b : Bool) → eqb (refusalOf (l .list) (roomIn l) st i pc (flag .0)) 0 ≡ b → Sound (lowering l st i pc flag .lent) (lowering l st i pc flag .lowered .state)
+      go : (b : Bool) → eqb (refusalOf (l .list) (roomIn l) st i address (flag .0)) 0 ≡ b → Sound (lowering l st i address flag .lent) (lowering l st i address flag .lowered .state)
       go true e = accepted-sound (eqb-true _ 0 e)
-      go false e = rw (when-refused l st i pc flag (eqb-false _ 0 e)) s
+      go false e = rw (when-refused l st i address flag (eqb-false _ 0 e)) s
 
 -- ---- lines
 

@@ -16,7 +16,7 @@ use Rattle.btor2_list.specs.Node.{Node, node}
 use Rattle.btor2_list.specs.View.{view}
 use Rattle.btor2_list.specs.Look.{seen, lookAt}
 use Rattle.btor2_list.proofs.Seen.{look-line, look-past}
-use Rattle.roles_check.specs.RolesFit.{valueSort, roleSort, rolesFit}
+use Rattle.state.specs.RolesFit.{valueSort, roleSort, rolesFit}
 use Rattle.demand.proofs.Views.{view-agree}
 
 module _ (front rest : List ℕ) where

@@ -7,7 +7,7 @@ use lib.ListN.{length}
 use Rattle.btor2.specs.Value.{Env}
 use Rattle.btor2_list.specs.Record.{wordsFor}
 use Rattle.btor2_list.specs.View.{view}
-use Rattle.lowering_refusals.specs.declared.Room.{Room}
+use Rattle.state.specs.declared.room.Room.{Room}
 use Rattle.lowering_laws.specs.Lines.{numbered}
 use Rattle.start.specs.Start.{startRefusal}
 use Rattle.listing_start.specs.Start.{hostArea, firstNid, startLines, startOps, startIn, startState}

@@ -11,9 +11,9 @@ use lib.Seq.{sets, take-all, take-add}
 use borrow.Author.Tests.{eqb-true, ltb-true, ltb-false}
 use Rattle.bitvec.proofs.Base.{by-le}
 use Rattle.listing_input.specs.Gather.{lineBytes, lineEnds, lineNext}
-use Rattle.listing_line.specs.Text.{before}
+use Rattle.listing_input.specs.Text.{before}
 use Rattle.lowering.specs.Lowering.{Lent}
-use Rattle.lowering_refusals.specs.declared.State.{State}
+use Rattle.state.specs.declared.State.{State}
 use Rattle.text.specs.Put.{Put}
 use Rattle.text.proofs.Laws.{then, put-length}
 use Rattle.listing_bytes.specs.Storage.{outRoom}

@@ -27,7 +27,7 @@ const NAMES: usize = LINES * LONGEST_NAME;
 
 const EDGES: usize = 2 * edges::EDGE;
 
-const DISPATCHES: usize = dispatches::DISPATCH;
+const DISPATCHES: usize = edges::DISPATCH;
 
 const BADS: usize = LINES;
 

@@ -13,7 +13,7 @@ use Rattle.btor2_list.specs.Record.{capacity, wordsFor, words}
 use Rattle.btor2_list.specs.declared.Line.{Line}
 use Rattle.btor2_list.specs.Node.{lineOf}
 use Rattle.riscv.specs.Name.{bytes}
-use Rattle.lowering_refusals.specs.declared.State.{State}
+use Rattle.state.specs.declared.State.{State}
 
 -- ---- names
 

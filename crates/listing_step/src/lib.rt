@@ -1,11 +1,11 @@
 // One step of the listing: a line of input is parsed and lowered, and what comes of it put into an output.
 use btor2::NodeRef;
-use listing_line::Parsed;
-use listing_line::parse;
+use listing_input::Parsed;
+use listing_input::parse;
 use lowering_calls::lower;
-use lowering_refusals::Counts;
-use lowering_refusals::State;
 use riscv::Instruction;
+use state::Counts;
+use state::State;
 ghost use mathlib.Core.Path.{_≡_};
 ghost use mathlib.Core.List.{_++_};
 ghost use Prim.Native.Nat.{_-_};
@@ -181,7 +181,7 @@ fn put_appended(
     ensures { λ r. ⌜ Put (now (out .entry)) 0 (runText hostArea (now (names .entry)) (nodes (now (list .entry)) lines) from (lines - from) ++ edgesText (nodes (now (list .entry)) lines) (now (edges .entry)) (c .edges) ++ dispatchesText (now (dispatches .entry)) (c .dispatches)) (now (out .exit)) r ⌝ }
 {
     let p = put_lines(out, list, names, from, lines);
-    let q = listing_edges::put_edges(out, p, list, lines, edges, c.edges);
+    let q = listing_text::put_edges(out, p, list, lines, edges, c.edges);
     listing_text::put_dispatches(out, q, dispatches, c.dispatches)
 }
 

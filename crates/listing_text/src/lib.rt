@@ -1,10 +1,13 @@
-// The listing's remarks on dispatches and refusals as text; those on edges are in listing_edges.
+// The listing's remarks on dispatches and refusals as text; those on edges are in in_edges.rt.
+mod in_edges;
+
+pub use in_edges::put_edges;
 ghost use Rattle.text.specs.Put.{Put};
 ghost use Rattle.listing_text.specs.Remarks.{dispatchText, refusedText, dispatchTextAt, dispatchesText};
 
-pub const SPACE: u8 = 32;
+pub(crate) const SPACE: u8 = 32;
 
-pub const NEWLINE: u8 = 10;
+pub(crate) const NEWLINE: u8 = 10;
 
 fn put_dispatch(out: &mut [u8], at: usize, register: u64, from: u64) -> usize
     ensures { λ r. ⌜ Put (now (out .entry)) at (dispatchText register from) (now (out .exit)) r ⌝ }
@@ -19,10 +22,10 @@ fn put_dispatch(out: &mut [u8], at: usize, register: u64, from: u64) -> usize
 fn put_dispatch_at(out: &mut [u8], at: usize, records: &[u64], k: usize) -> usize
     ensures { λ r. ⌜ Put (now (out .entry)) at (dispatchTextAt (now (records .entry)) k) (now (out .exit)) r ⌝ }
 {
-    if records.len() / dispatches::DISPATCH <= k {
+    if records.len() / edges::DISPATCH <= k {
         return at;
     }
-    let b = k * dispatches::DISPATCH;
+    let b = k * edges::DISPATCH;
     put_dispatch(out, at, records[b], records[b + 1])
 }
 

@@ -4,10 +4,10 @@ use mathlib.Core.Path.{_≡_, refl}
 use mathlib.Core.Bool.{Bool, true, false, cond}
 use lib.Dec.{eqb}
 use Rattle.btor2.specs.declared.NodeRef.{NodeRef}
-use Rattle.program.specs.Prog.{exec}
+use Rattle.builder.specs.Prog.{exec}
 use Rattle.builder.specs.Append.{at, append}
 use Rattle.riscv.specs.declared.Instruction.{Instruction}
-use Rattle.lowering_refusals.specs.declared.State.{State}
+use Rattle.state.specs.declared.State.{State}
 use Rattle.lowering_refusals.specs.Refusal.{refusalGiven}
 use Rattle.lowering.specs.Lowering.{Lent, Answer, roomIn, programOf, settled, refused, loweringGiven}
 
@@ -16,9 +16,9 @@ kept-by : (b : Bool) (a : Answer) (n : ℕ) (l : Lent) (st : State) → a .lower
 kept-by true a n l st z h = absurd (h z)
 kept-by false a n l st z h = refl
 
-pub refused-kept : (fits : Bool) (l : Lent) (st : State) (i : Instruction) (pc : ℕ) (flag : NodeRef) → (loweringGiven fits l st i pc flag .lowered .refusal ≡ 0 → ⊥)
-    → loweringGiven fits l st i pc flag .lowered .state ≡ st
+pub refused-kept : (fits : Bool) (l : Lent) (st : State) (i : Instruction) (address : ℕ) (flag : NodeRef) → (loweringGiven fits l st i address flag .lowered .refusal ≡ 0 → ⊥)
+    → loweringGiven fits l st i address flag .lowered .state ≡ st
 unfolding loweringGiven settled
-refused-kept fits l st i pc flag =
-    kept-by (eqb (refusalGiven fits (l .list) (roomIn l) (st .tally) (st .counts) i pc (flag .0)) 0) (settled l st i pc (exec append (at (l .list) (st .tally)) (programOf st i pc flag)))
-    (refusalGiven fits (l .list) (roomIn l) (st .tally) (st .counts) i pc (flag .0)) l st refl
+refused-kept fits l st i address flag =
+    kept-by (eqb (refusalGiven fits (l .list) (roomIn l) (st .tally) (st .counts) i address (flag .0)) 0) (settled l st i address (exec append (at (l .list) (st .tally)) (programOf st i address flag)))
+    (refusalGiven fits (l .list) (roomIn l) (st .tally) (st .counts) i address (flag .0)) l st refl

@@ -3,9 +3,9 @@ use mathlib.Core.Path.{ap}
 use mathlib.Core.List.{List}
 use lib.ListN.{drop}
 use Rattle.btor2.specs.declared.NodeRef.{NodeRef}
-use Rattle.roles.specs.Roles.{roleCount}
-use Rattle.state_words.specs.Words.{stateWords, rolesIn, stateIn, stateOut, withState}
-use Rattle.state_words.proofs.Words.{places-back}
+use Rattle.state.specs.Roles.{roleCount}
+use Rattle.state.specs.Words.{stateWords, rolesIn, stateIn, stateOut, withState}
+use Rattle.state.proofs.Words.{places-back}
 use Rattle.lowering.specs.Words.{ReadBack}
 
 pub read-back : ReadBack

@@ -7,9 +7,9 @@ use lib.ListN.{length, getD}
 use Rattle.btor2.specs.declared.NodeRef.{NodeRef}
 use Rattle.btor2_list.specs.Records.{recordsIn}
 use Rattle.riscv.specs.declared.Instruction.{Instruction}
-use Rattle.lowering_refusals.specs.declared.State.{State}
+use Rattle.state.specs.declared.State.{State}
 use Rattle.lowering.specs.Lowering.{Lent, lowering}
-use Rattle.state_words.specs.Words.{stateWords, stateIn, withState}
+use Rattle.state.specs.Words.{stateWords, stateIn, withState}
 
 -- ---- a call is seven words: address, kind, rd, rs1, rs2, imm, flag
 

@@ -1,3 +1,4 @@
 pub mod Lowering
 pub mod Words
 pub mod All
+pub mod Lines

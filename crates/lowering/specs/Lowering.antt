@@ -7,7 +7,7 @@ use lib.Dec.{eqb}
 use lib.ListN.{length}
 use lib.Seq.{sets}
 use Rattle.btor2.specs.declared.NodeRef.{NodeRef}
-use Rattle.program.specs.Prog.{Prog, Run, exec}
+use Rattle.builder.specs.Prog.{Prog, Run, exec}
 use Rattle.builder.specs.Append.{Store, at, append}
 use Rattle.riscv.specs.declared.Class.{Class}
 use Rattle.riscv.specs.Class.{class, hasBad, hasDispatch}
@@ -18,14 +18,15 @@ use Rattle.riscv.specs.declared.Instruction.{Instruction}
 use Rattle.riscv.specs.declared.Zeros.{Zeros}
 use Rattle.riscv.specs.Zeros.{zerosOf}
 use Rattle.riscv.specs.Kind.{kindAt}
-use Rattle.roles.specs.Roles.{readsIn, withFlows, withOutcome}
-use Rattle.roles_check.specs.RolesFit.{rolesFit}
+use Rattle.state.specs.Roles.{readsIn, withFlows, withOutcome}
+use Rattle.state.specs.RolesFit.{rolesFit}
 use Rattle.text.specs.BadName.{badName}
-use Rattle.lowering_lines.specs.Lines.{programFrom}
-use Rattle.lowering_refusals.specs.declared.Counts.{Counts}
-use Rattle.lowering_refusals.specs.declared.Room.{Room}
-use Rattle.lowering_refusals.specs.declared.State.{State}
-use Rattle.lowering_refusals.specs.Refusal.{roomOf, needs, refusalGiven}
+use Rattle.lowering.specs.Lines.{programFrom}
+use Rattle.state.specs.declared.Counts.{Counts}
+use Rattle.state.specs.declared.room.Room.{Room}
+use Rattle.state.specs.declared.State.{State}
+use Rattle.lowering_refusals.specs.Refusal.{needs, refusalGiven}
+use Rattle.state.specs.Room.{roomOf}
 use Rattle.lowering.specs.declared.Lowered.{Lowered}
 
 -- what the host lends
@@ -49,7 +50,7 @@ answer r l = record { lowered = r; lent = l }
 
 -- the lines of an instruction, from what it reads
 unfoldable pub programOf : State → Instruction → ℕ → NodeRef → Prog ℕ (P.Modeled ℕ)
-programOf st i pc flag = programFrom (readsIn (st .roles) flag i) (st .counts .names) i pc
+programOf st i address flag = programFrom (readsIn (st .roles) flag i) (st .counts .names) i address
 
 -- "Jalr: a dispatch under rs1 (with x0 a `bad` line instead)"; the bad line stands after the link's two lines, if any
 abbrev pub linkLines : Zeros → ℕ
@@ -95,12 +96,12 @@ roomIn l = roomOf (length (l .list)) (length (l .names)) (length (l .edges)) (le
 abbrev pub refused : ℕ → Lent → State → Answer
 refused n l st = record { lowered = record { refusal = n; state = st }; lent = l }
 
--- one call, the instruction i at the address pc under a flag, by the answer `fits` of the test of the roles
+-- one call, the instruction i at an address under a flag, by the answer `fits` of the test of the roles
 unfoldable pub loweringGiven : Bool → Lent → State → Instruction → ℕ → NodeRef → Answer
-loweringGiven fits l st i pc flag =
-    let n = refusalGiven fits (l .list) (roomIn l) (st .tally) (st .counts) i pc (flag .0) in
-    cond (eqb n 0) (settled l st i pc (exec append (at (l .list) (st .tally)) (programOf st i pc flag))) (refused n l st)
+loweringGiven fits l st i address flag =
+    let n = refusalGiven fits (l .list) (roomIn l) (st .tally) (st .counts) i address (flag .0) in
+    cond (eqb n 0) (settled l st i address (exec append (at (l .list) (st .tally)) (programOf st i address flag))) (refused n l st)
 
 -- one call: the roles are tested on the list that it is lent
 abbrev pub lowering : Lent → State → Instruction → ℕ → NodeRef → Answer
-lowering l st i pc flag = loweringGiven (rolesFit (l .list) (st .tally .lines) 0 (st .roles)) l st i pc flag
+lowering l st i address flag = loweringGiven (rolesFit (l .list) (st .tally .lines) 0 (st .roles)) l st i address flag

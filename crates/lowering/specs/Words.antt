@@ -7,9 +7,9 @@ use lib.Dec.{ltb}
 use lib.ListN.{length}
 use Rattle.btor2.specs.declared.NodeRef.{NodeRef}
 use Rattle.riscv.specs.declared.Instruction.{Instruction}
-use Rattle.roles.specs.Roles.{roleCount}
-use Rattle.lowering_refusals.specs.declared.State.{State}
-use Rattle.state_words.specs.Words.{stateWords, stateIn, withState}
+use Rattle.state.specs.Roles.{roleCount}
+use Rattle.state.specs.declared.State.{State}
+use Rattle.state.specs.Words.{stateWords, stateIn, withState}
 use Rattle.lowering.specs.Lowering.{Lent, Answer, lowering}
 
 -- what the host is given: the number of the refusal, the lent lists and the state's words
@@ -26,7 +26,7 @@ givenBy ws a = given (a .lowered .refusal) (a .lent) (withState ws (a .lowered .
 
 -- 9: "a count above its storage", where there is no room for the counts themselves; else what the lowering of the state in these words gives
 unfoldable pub loweringWords : Lent → List ℕ → Instruction → ℕ → NodeRef → Given
-loweringWords l ws i pc flag = cond (ltb (length ws) stateWords) (given 9 l ws) (givenBy ws (lowering l (stateIn ws) i pc flag))
+loweringWords l ws i address flag = cond (ltb (length ws) stateWords) (given 9 l ws) (givenBy ws (lowering l (stateIn ws) i address flag))
 
 -- the law: a state that was put into words is read from them; that there are 79 roles is what the code's type of them gives
 abbrev pub ReadBack : Type 0

@@ -7,15 +7,15 @@ use mathlib.Core.List.{List, [], _∷_}
 use borrow.Author.Tests.{eqb-true, le-ltb}
 use lib.Dec.{eqb}
 use lib.ListN.{length}
-use Rattle.roles.specs.Roles.{roleCount}
-use Rattle.roles_check.specs.RolesFit.{rolesFit}
-use Rattle.lowering_refusals.specs.declared.State.{State}
+use Rattle.state.specs.Roles.{roleCount}
+use Rattle.state.specs.RolesFit.{rolesFit}
+use Rattle.state.specs.declared.State.{State}
 use Rattle.lowering_refusals.specs.Refusal.{refusalOf}
 use Rattle.lowering.specs.Lowering.{Lent, Answer, roomIn, lowering}
-use Rattle.state_words.specs.Words.{stateWords, rolesIn, stateIn, withState}
+use Rattle.state.specs.Words.{stateWords, rolesIn, stateIn, withState}
 use Rattle.lowering.specs.Words.{Given, givenBy}
 use Rattle.lowering.specs.All.{LowerCall, callWords, callsIn, AnswerAll, answerAll, loweringOn, loweringAll, GivenAll, givenAll, allBy}
-use Rattle.state_words.proofs.Words.{size-in, state-kept, put-again, put-length}
+use Rattle.state.proofs.Words.{size-in, state-kept, put-again, put-length}
 use Rattle.lowering.proofs.Words.{read-back}
 use Rattle.roles_kept.proofs.Passed.{roles-in}
 use Rattle.roles_kept.proofs.Call.{called, refusal-is, roled-after, roles-keep}

@@ -6,7 +6,7 @@ use lib.Dec.{eqb}
 use Rattle.btor2.specs.declared.NodeRef.{NodeRef}
 use Rattle.builder.specs.declared.Tally.{Tally}
 use Rattle.builder.specs.Append.{Store, at, append}
-use Rattle.program.specs.Prog.{Run, exec}
+use Rattle.builder.specs.Prog.{Run, exec}
 use Rattle.riscv.specs.Class.{class}
 use Rattle.edges.specs.Edges.{edgesAfter}
 use Rattle.models.specs.Places as P
@@ -16,12 +16,12 @@ use Rattle.riscv.specs.declared.Class.{Class}
 use Rattle.riscv.specs.declared.Zeros.{Zeros}
 use Rattle.riscv.specs.Kind.{kindAt}
 use Rattle.riscv.specs.Zeros.{zerosOf}
-use Rattle.roles.specs.Roles.{withFlows, withOutcome}
-use Rattle.lowering_refusals.specs.declared.Counts.{Counts}
+use Rattle.state.specs.Roles.{withFlows, withOutcome}
+use Rattle.state.specs.declared.Counts.{Counts}
 use Rattle.lowering_refusals.specs.Refusal.{needs, refusalGiven}
-use Rattle.roles.specs.declared.Reads.{Reads}
-use Rattle.lowering_lines.specs.Lines.{programFrom}
-use Rattle.state_words.specs.Words.{stateOf}
+use Rattle.state.specs.declared.roles.Reads.{Reads}
+use Rattle.lowering.specs.Lines.{programFrom}
+use Rattle.state.specs.Words.{stateOf}
 use Rattle.lowering.specs.Lowering.{Lent, lent, Answer, roomIn, namesAfter, dispatchesAfter, badsAfter, countsAfter}
 use Rattle.lowering_calls.specs.declared.apart.Apart.{Apart}
 
@@ -66,9 +66,9 @@ abbrev pub refusedApart : ℕ → Lent → Tally → Counts → Reads → GivenA
 refusedApart n l t c e = record { refusal = n; tally = t; counts = c; flows = flowsOf (e .flows); outcome = P.nothing; lent = l }
 
 unfoldable pub callApart : Bool → Lent → Tally → Counts → Reads → Instruction → ℕ → NodeRef → GivenApart
-callApart fits l t c e i pc flag =
-    let n = refusalGiven fits (l .list) (roomIn l) t c i pc (flag .0) in
-    cond (eqb n 0) (acceptedApart l t c i pc (exec append (at (l .list) t) (programFrom e (c .names) i pc))) (refusedApart n l t c e)
+callApart fits l t c e i address flag =
+    let n = refusalGiven fits (l .list) (roomIn l) t c i address (flag .0) in
+    cond (eqb n 0) (acceptedApart l t c i address (exec append (at (l .list) t) (programFrom e (c .names) i address))) (refusedApart n l t c e)
 
 -- with the roles: those that an accepted call sets are set
 abbrev pub rolesAfter : List NodeRef → ℕ → GivenApart → List NodeRef

@@ -3,8 +3,8 @@ use Prim.Native.Nat.{ℕ, _+_, _≤_, _<_, _^_}
 use mathlib.Core.Path.{_≡_}
 use Rattle.builder.specs.declared.Tally.{Tally}
 use Rattle.riscv.specs.declared.Instruction.{Instruction}
-use Rattle.lowering_refusals.specs.declared.Counts.{Counts}
-use Rattle.lowering_refusals.specs.declared.Room.{Room}
+use Rattle.state.specs.declared.Counts.{Counts}
+use Rattle.state.specs.declared.room.Room.{Room}
 use Rattle.lowering_refusals.specs.Refusal.{needs}
 use Rattle.btor2_list.specs.Limits.{mostLines}
 

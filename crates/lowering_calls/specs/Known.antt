@@ -7,14 +7,14 @@ use lib.ListN.{length}
 use Rattle.btor2.specs.declared.NodeRef.{NodeRef}
 use Rattle.riscv.specs.declared.Instruction.{Instruction}
 use Rattle.lowering.specs.Lowering.{Lent, loweringGiven}
-use Rattle.state_words.specs.Words.{stateWords, stateIn}
+use Rattle.state.specs.Words.{stateWords, stateIn}
 use Rattle.lowering.specs.Words.{Given, given, givenBy}
 use Rattle.lowering.specs.All.{LowerCall, callWords, callsIn, GivenAll, givenAll}
 
 -- ---- one call, and many, where it is known whether the roles fit
 
 unfoldable pub knownWords : Bool → Lent → List ℕ → Instruction → ℕ → NodeRef → Given
-knownWords fits l ws i pc flag = cond (ltb (length ws) stateWords) (given 9 l ws) (givenBy ws (loweringGiven fits l (stateIn ws) i pc flag))
+knownWords fits l ws i address flag = cond (ltb (length ws) stateWords) (given 9 l ws) (givenBy ws (loweringGiven fits l (stateIn ws) i address flag))
 
 unfoldable pub wordsOn : Bool → ℕ → Lent → List ℕ → List LowerCall → GivenAll
 wordsOn fits done l ws [] = givenAll done 0 l ws

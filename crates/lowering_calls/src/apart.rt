@@ -2,13 +2,8 @@
 use btor2::NodeRef;
 use btor2_list::MOST_NID;
 use builder::Tally;
-use lowering_lines::lower_lines;
-use lowering_lines::name_for;
-use lowering_refusals::BAD_COUNT;
-use lowering_refusals::Counts;
-use lowering_refusals::Room;
-use lowering_refusals::counts_out;
-use lowering_refusals::room_of;
+use lowering::lower_lines;
+use lowering::name_for;
 use lowering_refusals::weigh;
 use models::Flows;
 use models::Outcome;
@@ -17,17 +12,22 @@ use riscv::Instruction;
 use riscv::Zeros;
 use riscv::has_bad;
 use riscv::has_dispatch;
-use roles::Reads;
+use state::BAD_COUNT;
+use state::Counts;
+use state::Reads;
+use state::Room;
+use state::counts_out;
+use state::room_of;
 ghost use mathlib.Core.Path.{_≡_};
 ghost use mathlib.Core.Bool.{Bool, not};
 ghost use mathlib.Core.List.{List, _∷_};
 ghost use Rattle.riscv.specs.Refusal.{first};
 ghost use Prim.Native.Nat.{ℕ, _+_, _≤_};
 ghost use Rattle.builder.specs.Append.{at, append};
-ghost use Rattle.program.specs.Prog.{exec};
-ghost use Rattle.lowering_refusals.specs.Refusal.{countsOut};
+ghost use Rattle.builder.specs.Prog.{exec};
+ghost use Rattle.state.specs.Room.{countsOut};
 ghost use Rattle.btor2_list.specs.Limits.{mostLines, mostNid};
-ghost use Rattle.lowering_lines.specs.Lines.{nameFor, programWith};
+ghost use Rattle.lowering.specs.Lines.{nameFor, programWith};
 ghost use Rattle.lowering.specs.Lowering.{lent, linkLines, namesAfter, dispatchesAfter, badsAfter, countsAfter};
 ghost use Rattle.lowering_calls.specs.Bounds.{Added, Ready};
 ghost use Rattle.lowering_calls.specs.Apart.{givenApart, acceptedWith, callApart};
@@ -176,11 +176,11 @@ fn put_jalr(
     if has_bad(class, z) {
         let place = bad_place(z, lines);
         text::put_bad_name(names, c.names, address);
-        dispatches::put_place(bads, c.bads, place);
+        edges::put_place(bads, c.bads, place);
         return;
     }
     if has_dispatch(class, z) {
-        dispatches::go_to_anywhere(dispatches, c.dispatches, rs1, address);
+        edges::go_to_anywhere(dispatches, c.dispatches, rs1, address);
     }
 }
 

@@ -6,18 +6,18 @@ use apart::Apart;
 use apart::lower_apart;
 use btor2::NodeRef;
 use lowering::Lowered;
-use lowering_refusals::BAD_COUNT;
-use lowering_refusals::State;
 use riscv::Instruction;
-use state_words::STATE_WORDS;
+use state::BAD_COUNT;
+use state::STATE_WORDS;
+use state::State;
 ghost use mathlib.Core.Path.{_≡_};
 ghost use mathlib.Core.Bool.{not};
 ghost use Prim.Native.Nat.{_+_, _*_, _≤_};
 ghost use lib.ListN.{length, drop};
 ghost use Rattle.models.specs.Code.{flowsOf, outcomeOf};
-ghost use Rattle.roles_check.specs.RolesFit.{rolesFit};
+ghost use Rattle.state.specs.RolesFit.{rolesFit};
 ghost use Rattle.lowering.specs.Lowering.{lent, answer, lowering};
-ghost use Rattle.state_words.specs.Words.{stateIn, stored};
+ghost use Rattle.state.specs.Words.{stateIn, stored};
 ghost use Rattle.lowering.specs.Words.{given, loweringWords};
 ghost use Rattle.lowering.specs.All.{callWords, callIn, givenAll, loweringAllWords};
 ghost use Rattle.lowering_calls.specs.Known.{knownWords, wordsAll};
@@ -35,7 +35,7 @@ pub struct Stopped {
 }
 
 // An instruction at an address under a flag, as one of many calls has it.
-struct Call {
+struct LoweringCall {
     instruction: Instruction,
     address: u64,
     flag: NodeRef,
@@ -59,7 +59,7 @@ pub fn lower(
     let t = state.tally;
     let c = state.counts;
     let places = state.roles;
-    let mut words = state_words::words_of(t, c, places);
+    let mut words = state::words_of(t, c, places);
     let refusal = lower_words(
         list,
         names,
@@ -71,7 +71,7 @@ pub fn lower(
         address,
         flag,
     );
-    let after = state_words::state_in(&words);
+    let after = state::state_in(&words);
     Lowered {
         refusal,
         state: after,
@@ -133,10 +133,10 @@ pub fn lower_all(
 fn roles_fit(list: &[u64], words: &[u64]) -> bool
     ensures { λ r. ⌜ r ≡ rolesFit (now (list .entry)) (stateIn (now (words .entry)) .tally .lines) 0 (stateIn (now (words .entry)) .roles) ⌝ }
 {
-    let state = state_words::state_in(words);
+    let state = state::state_in(words);
     let t = state.tally;
     let places = state.roles;
-    !roles_check::roles_out(list, t.lines, places)
+    !state::roles_out(list, t.lines, places)
 }
 
 // A call over the state's words where it is known whether the roles of the state in them fit.
@@ -157,9 +157,9 @@ fn lower_known(
     if state.len() < STATE_WORDS {
         return BAD_COUNT;
     }
-    let t = state_words::tally_in(state);
-    let c = state_words::counts_in(state);
-    let e = state_words::reads_in(state, flag, i);
+    let t = state::tally_in(state);
+    let c = state::counts_in(state);
+    let e = state::reads_in(state, flag, i);
     let p = lower_apart(
         list,
         names,
@@ -190,7 +190,7 @@ fn put_apart(words: &mut [u64], rd: u64, p: Apart)
     let c = p.counts;
     let flows = p.flows;
     let outcome = p.outcome;
-    state_words::put_state(words, t, c, flows, rd, outcome);
+    state::put_state(words, t, c, flows, rd, outcome);
 }
 
 // All calls where it is known whether the roles fit at the start.
@@ -233,14 +233,14 @@ fn lower_rest(
 }
 
 // The call after `done` others.
-fn call_at(calls: &[u64], done: usize) -> Call
+fn call_at(calls: &[u64], done: usize) -> LoweringCall
     requires { ⌜ done * callWords + callWords ≤ length (now calls) ⌝ }
     ensures instruction { λ r. ⌜ r .instruction ≡ callIn (drop (done * callWords) (now (calls .entry))) .instruction ⌝ }
     ensures address { λ r. ⌜ r .address ≡ callIn (drop (done * callWords) (now (calls .entry))) .address ⌝ }
     ensures flag { λ r. ⌜ r .flag ≡ callIn (drop (done * callWords) (now (calls .entry))) .flag ⌝ }
 {
     let from = done * CALL;
-    Call {
+    LoweringCall {
         instruction: Instruction {
             kind: calls[from + 1],
             rd: calls[from + 2],

@@ -13,18 +13,18 @@ use btor2_list::BAD;
 use btor2_list::Found;
 use btor2_list::Line;
 use builder::Tally;
-use case_record::read_record;
-use case_state::Step;
-use case_state::read_counts;
-use case_state::read_role;
-use decimal_text::read_decimal;
+use cases::Step;
+use cases::read_counts;
+use cases::read_decimal;
+use cases::read_record;
+use cases::read_role;
 use libc::STDIN_FILENO;
 use libc::STDOUT_FILENO;
-use lowering_refusals::Counts;
-use lowering_refusals::State;
 use riscv::Instruction;
-use roles::REGISTER_FLOWS;
-use roles::ROLES;
+use state::Counts;
+use state::REGISTER_FLOWS;
+use state::ROLES;
+use state::State;
 
 // The flow of x1, the first.
 const FIRST_FLOW: usize = REGISTER_FLOWS + 1;
@@ -224,7 +224,7 @@ fn show_line(names: &[u8], line: Line) {
     show(line.name.at, b" ");
     show(line.name.len, b"\n");
     if line.kind == BAD {
-        io::write_all(STDOUT_FILENO, btor2_name::name_bytes(b"", names, line.name));
+        io::write_all(STDOUT_FILENO, btor2_list::name_bytes(b"", names, line.name));
         io::write_all(STDOUT_FILENO, b"\n");
     }
 }
@@ -258,10 +258,10 @@ fn show_dispatches(dispatches: &[u64], from: usize, to: usize) {
 }
 
 fn show_dispatch(dispatches: &[u64], at: usize) {
-    if dispatches.len() / dispatches::DISPATCH <= at {
+    if dispatches.len() / edges::DISPATCH <= at {
         return;
     }
-    let b = at * dispatches::DISPATCH;
+    let b = at * edges::DISPATCH;
     io::write_all(STDOUT_FILENO, b"dyn ");
     show(dispatches[b], b" ");
     show(dispatches[b + 1], b"\n");

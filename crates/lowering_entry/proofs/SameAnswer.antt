@@ -10,7 +10,7 @@ use lib.Dec.{eqb, ltb}
 use lib.ListN.{length, replicate, set, length-set, length-replicate}
 use Rattle.btor2.specs.declared.NodeRef.{NodeRef}
 use Rattle.builder.specs.Append.{Store, at, append}
-use Rattle.program.specs.Prog.{Run, exec}
+use Rattle.builder.specs.Prog.{Run, exec}
 use Rattle.edges.specs.Edges.{edge, edgeCount, edgesAfter}
 use Rattle.btor2_list.specs.Records.{putRecord}
 use Rattle.riscv.specs.declared.Class.{Class}
@@ -20,9 +20,10 @@ use Rattle.models.specs.Places as P
 use Rattle.models.specs.Places.{Outcome}
 use Rattle.riscv.specs.declared.Instruction.{Instruction}
 use Rattle.riscv.specs.Kind.{kindAt}
-use Rattle.lowering_refusals.specs.declared.Room.{Room}
-use Rattle.lowering_refusals.specs.declared.State.{State}
-use Rattle.lowering_refusals.specs.Refusal.{roomOf, needsOf, needs, roomOut, refusalGiven, refusalOf}
+use Rattle.state.specs.declared.room.Room.{Room}
+use Rattle.state.specs.declared.State.{State}
+use Rattle.lowering_refusals.specs.Refusal.{needsOf, needs, roomOut, refusalGiven, refusalOf}
+use Rattle.state.specs.Room.{roomOf}
 use Rattle.lowering.specs.Lowering.{Lent, lent, Answer, answer, programOf, settled, countsAfter, roomIn, refused, loweringGiven, lowering}
 use Rattle.lowering_refusals.proofs.Accepted as A
 use Rattle.edges.specs.declared.InEdge.{InEdge}
@@ -81,15 +82,15 @@ module _ (es : List InEdge) (count u : ℕ) where
       let more : count + 1 < length (set es count first) = rw (length-set es count first) (omega arith) in
       rw (none, ← put-words es count first (omega arith)) (put-words (set es count first) (count + 1) (edgeOf to′ from origin condition′) more)
 
-  pub same-edges : (c : Class) (pc imm : ℕ) (o : Outcome ℕ) → u + edgeCount c ≤ 2 → count + edgeCount c ≤ length es → let ws = edgesAfter zeros u c pc imm o in
-      edgeWords (appended es count (edgeCount c) (edgeAt ws u) (edgeAt ws (u + 1))) ≡ edgesAfter (edgeWords es) count c pc imm o
-  same-edges Plain pc imm o small fits = one _ _ _ _ small fits
-  same-edges Access pc imm o small fits = one _ _ _ _ small fits
-  same-edges Addi pc imm o small fits = one _ _ _ _ small fits
-  same-edges Branch pc imm o small fits = two _ _ _ _ _ _ small fits
-  same-edges Jal pc imm o small fits = one _ _ _ _ small fits
-  same-edges Jalr pc imm o small fits = refl
-  same-edges Ecall pc imm o small fits = one _ _ _ _ small fits
+  pub same-edges : (c : Class) (address imm : ℕ) (o : Outcome ℕ) → u + edgeCount c ≤ 2 → count + edgeCount c ≤ length es → let ws = edgesAfter zeros u c address imm o in
+      edgeWords (appended es count (edgeCount c) (edgeAt ws u) (edgeAt ws (u + 1))) ≡ edgesAfter (edgeWords es) count c address imm o
+  same-edges Plain address imm o small fits = one _ _ _ _ small fits
+  same-edges Access address imm o small fits = one _ _ _ _ small fits
+  same-edges Addi address imm o small fits = one _ _ _ _ small fits
+  same-edges Branch address imm o small fits = two _ _ _ _ _ _ small fits
+  same-edges Jal address imm o small fits = one _ _ _ _ small fits
+  same-edges Jalr address imm o small fits = refl
+  same-edges Ecall address imm o small fits = one _ _ _ _ small fits
 
 at-most : (c : Class) → edgeCount c ≤ 2
 at-most Plain = omega arith
@@ -102,7 +103,7 @@ at-most Ecall = omega arith
 
 -- ---- the same answer
 
-module _ (l n d b : List ℕ) (es : List InEdge) (st : State) (i : Instruction) (pc : ℕ) (flag : NodeRef) (u : ℕ) (test : (m : ℕ) → m ≤ 2 → ltb 2 (u + m) ≡ ltb (length es) (st .counts .edges + m)) where
+module _ (l n d b : List ℕ) (es : List InEdge) (st : State) (i : Instruction) (address : ℕ) (flag : NodeRef) (u : ℕ) (test : (m : ℕ) → m ≤ 2 → ltb 2 (u + m) ≡ ltb (length es) (st .counts .edges + m)) where
   abbrev own : Lent
   own = lent l n zeros d b
 
@@ -113,16 +114,16 @@ module _ (l n d b : List ℕ) (es : List InEdge) (st : State) (i : Instruction) 
   c = class (kindAt (i .kind))
 
   abbrev needed : Room
-  needed = needs i pc
+  needed = needs i address
 
   edges-are : needed .edges ≡ edgeCount c
   unfolding needsOf
   edges-are = refl
 
   number : ℕ
-  number = refusalOf l (roomIn own) (withEdges st u) i pc (flag .0)
+  number = refusalOf l (roomIn own) (withEdges st u) i address (flag .0)
 
-  same-refusal : refusalOf l (roomIn theirs) st i pc (flag .0) ≡ number
+  same-refusal : refusalOf l (roomIn theirs) st i address (flag .0) ≡ number
   unfolding number refusalGiven roomOut roomOf
   same-refusal =
       let nine : ltb 2 u ≡ ltb (length es) (st .counts .edges) = rw (add-zero u, add-zero (st .counts .edges)) at (test 0 (omega arith)) in
@@ -141,39 +142,39 @@ module _ (l n d b : List ℕ) (es : List InEdge) (st : State) (i : Instruction) 
         let none : u - u ≡ 0 = omega arith in
         (omega arith, record { fits = λ some. absurd (omega (arith, none)); right = rw (none, add-zero (st .counts .edges)) })
 
-    settled-whole : number ≡ 0 → Whole (settled own (withEdges st u) i pc run) (settled theirs st i pc run)
+    settled-whole : number ≡ 0 → Whole (settled own (withEdges st u) i address run) (settled theirs st i address run)
     unfolding settled countsAfter number roomOf
     settled-whole accepted =
-        let small : u + needed .edges ≤ 2 = A.roomy _ l (roomIn own) (withEdges st u .tally) (withEdges st u .counts) i pc (flag .0) accepted .edges in
+        let small : u + needed .edges ≤ 2 = A.roomy _ l (roomIn own) (withEdges st u .tally) (withEdges st u .counts) i address (flag .0) accepted .edges in
         let small′ : u + edgeCount c ≤ 2 = rw edges-are at small in
         let fits : st .counts .edges + edgeCount c ≤ length es = ltb-false _ _ (sym (test (edgeCount c) (at-most c)) ∙ le-ltb 2 (u + edgeCount c) small′) in
         let added : (u + needed .edges) - u ≡ edgeCount c = omega (arith, edges-are) in (
           omega arith,
           record {
             fits = λ some. rw added fits;
-            right = rw (added, edges-are, same-edges es (st .counts .edges) u c pc (i .imm) (run .value .outcome) small′ fits);
+            right = rw (added, edges-are, same-edges es (st .counts .edges) u c address (i .imm) (run .value .outcome) small′ fits);
           },
         )
 
     either : (t : Bool) → eqb number 0 ≡ t
-        → Whole (cond t (settled own (withEdges st u) i pc run) (refused number own (withEdges st u))) (cond t (settled theirs st i pc run) (refused number theirs st))
+        → Whole (cond t (settled own (withEdges st u) i address run) (refused number own (withEdges st u))) (cond t (settled theirs st i address run) (refused number theirs st))
     either true e = settled-whole (eqb-true number 0 e)
     either false e = refused-whole number
 
-  whole : Whole (lowering own (withEdges st u) i pc flag) (lowering theirs st i pc flag)
+  whole : Whole (lowering own (withEdges st u) i address flag) (lowering theirs st i address flag)
   unfolding loweringGiven programOf number
-  whole = rw same-refusal (either (exec append (at l (st .tally)) (programOf st i pc flag)) (eqb number 0) refl)
+  whole = rw same-refusal (either (exec append (at l (st .tally)) (programOf st i address flag)) (eqb number 0) refl)
 
-  pub same-answer : (a : Answer) → a ≡ lowering own (withEdges st u) i pc flag → Whole a (lowering theirs st i pc flag)
-  same-answer a e = subst (λ (x : Answer). Whole x (lowering theirs st i pc flag)) (sym e) whole
+  pub same-answer : (a : Answer) → a ≡ lowering own (withEdges st u) i address flag → Whole a (lowering theirs st i address flag)
+  same-answer a e = subst (λ (x : Answer). Whole x (lowering theirs st i address flag)) (sym e) whole
 
 -- the sums fit: for this a list of any records of the same length will do
-pub counted : (l n d b : List ℕ) (st : State) (i : Instruction) (pc : ℕ) (flag : NodeRef) (u room : ℕ) → u ≡ usedOf (st .counts .edges) room → st .counts .edges < 2 ^ 64 → room < 2 ^ 64
-    → (a : Answer) → a ≡ lowering (lent l n zeros d b) (withEdges st u) i pc flag → EdgesCounted (a .lowered) (st .counts .edges) u
-counted l n d b st i pc flag u room is count-fits room-fits a e =
+pub counted : (l n d b : List ℕ) (st : State) (i : Instruction) (address : ℕ) (flag : NodeRef) (u room : ℕ) → u ≡ usedOf (st .counts .edges) room → st .counts .edges < 2 ^ 64 → room < 2 ^ 64
+    → (a : Answer) → a ≡ lowering (lent l n zeros d b) (withEdges st u) i address flag → EdgesCounted (a .lowered) (st .counts .edges) u
+counted l n d b st i address flag u room is count-fits room-fits a e =
     let es : List InEdge = replicate room (edgeOf 0 0 0 0) in
     let long : length es ≡ room = length-replicate room (edgeOf 0 0 0 0) in
-    let w = same-answer l n d b es st i pc flag u (λ m h. rw (is, long) (same-test (st .counts .edges) room m h)) a e in
+    let w = same-answer l n d b es st i address flag u (λ m h. rw (is, long) (same-test (st .counts .edges) room m h)) a e in
     record { few = rw is (few (st .counts .edges) room); more = w .0; fits = sums (a .lowered .state .counts .edges - u) (λ some. omega (arith, w .1 .fits some, long)) }
   where
     sums : (m : ℕ) → (0 < m → st .counts .edges + m ≤ room) → st .counts .edges + m < 2 ^ 64

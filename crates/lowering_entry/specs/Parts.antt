@@ -4,9 +4,9 @@ use mathlib.Core.Bool.{cond}
 use mathlib.Core.List.{List}
 use lib.Dec.{eqb, ltb}
 use lib.ListN.{length, getD, set}
-use Rattle.lowering_refusals.specs.declared.State.{State}
+use Rattle.state.specs.declared.State.{State}
 use Rattle.lowering.specs.declared.Lowered.{Lowered}
-use Rattle.lowering_entry.specs.declared.Apart.{Apart}
+use Rattle.lowering_entry.specs.declared.LoweredWithEdges.{LoweredWithEdges}
 use Rattle.edges.specs.declared.InEdge.{InEdge}
 
 -- the records with the first n of a and b from count on
@@ -31,7 +31,7 @@ withEdges st n =
     }
 
 -- what the core gave, with the count of edges after count others, and the edges out of the words
-abbrev pub takenApart : Lowered → ℕ → ℕ → List ℕ → Apart
+abbrev pub takenApart : Lowered → ℕ → ℕ → List ℕ → LoweredWithEdges
 takenApart r count used ws =
     let added = r .state .counts .edges - used in
     record {
@@ -48,6 +48,6 @@ pub record EdgesCounted (r : Lowered) (count used : ℕ) : Type 0 where
   pub fits : count + (r .state .counts .edges - used) < 2 ^ 64
 
 -- the edges that r adds fit after count others, and with them appended the rest is right
-pub record Rejoined (es : List InEdge) (count : ℕ) (r : Apart) (Right : List InEdge → Type 0) : Type 0 where
+pub record Rejoined (es : List InEdge) (count : ℕ) (r : LoweredWithEdges) (Right : List InEdge → Type 0) : Type 0 where
   pub fits : 0 < r .added → count + r .added ≤ length es
   pub right : Right (appended es count (r .added) (r .first) (r .second))

@@ -3,9 +3,9 @@
 use btor2::NodeRef;
 use edges::InEdge;
 use lowering::Lowered;
-use lowering_refusals::Counts;
-use lowering_refusals::State;
 use riscv::Instruction;
+use state::Counts;
+use state::State;
 ghost use mathlib.Core.Path.{_≡_};
 ghost use Prim.Native.Nat.{_+_, _≤_, _<_};
 ghost use mathlib.Core.List.{List};
@@ -15,7 +15,7 @@ ghost use Rattle.edges.specs.InEdges.{edgeWords};
 ghost use Rattle.lowering_entry.specs.Parts.{edgeAt, appended, withEdges, usedOf, takenApart, EdgesCounted, Rejoined};
 
 // What a call gives, and the edges that it adds, at most two.
-struct Apart {
+struct LoweredWithEdges {
     lowered: Lowered,
     added: usize,
     first: InEdge,
@@ -77,7 +77,7 @@ fn lower_apart(
     i: Instruction,
     address: u64,
     flag: NodeRef,
-) -> Apart
+) -> LoweredWithEdges
     ensures { λ r. ⌜ ((es : List InEdge) → length es ≡ room → Rejoined es (state .counts .edges) r (λ after. answer (r .lowered) (lent (now (list .exit)) (now (names .exit)) (edgeWords after) (now (dispatches .exit)) (now (bads .exit))) ≡ lowering (lent (now (list .entry)) (now (names .entry)) (edgeWords es) (now (dispatches .entry)) (now (bads .entry))) state i address flag)) ⌝ }
 {
     let c = state.counts;
@@ -99,7 +99,7 @@ fn lower_apart(
 }
 
 // What the core gave, with the count of edges after those that were there, and the edges out of their words.
-fn taken_apart(r: Lowered, count: usize, used: usize, words: [u64; 8]) -> Apart
+fn taken_apart(r: Lowered, count: usize, used: usize, words: [u64; 8]) -> LoweredWithEdges
     requires { ⌜ EdgesCounted r count used ⌝ }
     ensures { λ a. ⌜ a ≡ takenApart r count used words ⌝ }
 {
@@ -109,7 +109,7 @@ fn taken_apart(r: Lowered, count: usize, used: usize, words: [u64; 8]) -> Apart
     let state = with_edges(after, count + added);
     let first = edge_at(words, used);
     let second = edge_at(words, used + 1);
-    Apart {
+    LoweredWithEdges {
         lowered: Lowered {
             refusal: r.refusal,
             state,

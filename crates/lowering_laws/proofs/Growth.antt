@@ -10,7 +10,7 @@ use Rattle.btor2.specs.declared.Name.{Name}
 use Rattle.btor2.specs.Op.{Op}
 use Rattle.btor2_list.specs.Node.{noName}
 use Rattle.btor2_list.proofs.Fitting.{areaFits}
-use Rattle.btor2_name.specs.NameBytes.{ourArea}
+use Rattle.btor2_list.specs.NameBytes.{ourArea}
 use Rattle.riscv.specs.declared.Zeros.{Zeros}
 use Rattle.riscv.specs.declared.Class.{Class}
 use Rattle.riscv.specs.Class.{lineCount, hasBad}
@@ -20,7 +20,7 @@ use Rattle.lowering_laws.specs.Lines.{taking}
 use Rattle.lowering_laws.proofs.EachKind.{reading}
 use Rattle.models.specs.Places.{Operands, Flows}
 use Rattle.text.specs.BadName.{badName}
-use Rattle.lowering_lines.specs.Lines.{nameFor}
+use Rattle.lowering.specs.Lines.{nameFor}
 
 -- the area of every line's name has one byte
 abbrev pub fitting : {A : Type 0} → List (Op A) → Bool

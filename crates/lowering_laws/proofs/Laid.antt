@@ -16,16 +16,16 @@ use Rattle.btor2_list.specs.View.{view}
 use Rattle.btor2_list.proofs.Stored.{put-length, put-elsewhere-below, put-elsewhere-above}
 use Rattle.btor2_list.proofs.View.{node-back, view-put}
 use Rattle.btor2_list.proofs.Fitting.{areaFits, line-fits}
-use Rattle.program.specs.Prog.{Prog, done, line, Run, ran, exec}
+use Rattle.builder.specs.Prog.{Prog, done, line, Run, ran, exec}
 use Rattle.builder.specs.declared.Tally.{Tally}
 use Rattle.builder.specs.Append.{Store, at, nidsTaken, appendLine, append}
-use Rattle.program.specs.Lines.{linesOf, placeAfter}
-use Rattle.program.proofs.Result.{resultOf}
+use Rattle.builder.specs.Lines.{linesOf, placeAfter}
+use Rattle.builder.proofs.Result.{resultOf}
 use Rattle.lowering_laws.specs.Lines.{taking, numbered}
 use Rattle.lowering_laws.proofs.Growth.{fitting}
 
 -- the lent words hold m more lines, and the d identifiers that these take fit the record
-pub record Room (ws : List ℕ) (t : Tally) (m d : ℕ) : Type 0 where
+pub record RoomForLines (ws : List ℕ) (t : Tally) (m d : ℕ) : Type 0 where
   pub lines : t .lines + m ≤ capacity (length ws)
   pub nids : t .nid + d < 2 ^ 32
 
@@ -90,20 +90,20 @@ and-both : (a b : Bool) → (a && b) ≡ true → (a ≡ true) × (b ≡ true)
 and-both true b e = (refl, e)
 and-both false b e = absurd (true≢false (sym e))
 
-there : (ws : List ℕ) (t : Tally) (m d : ℕ) → Room ws t (suc m) d → holds ws (t .lines) ≡ true
+there : (ws : List ℕ) (t : Tally) (m d : ℕ) → RoomForLines ws t (suc m) d → holds ws (t .lines) ≡ true
 there ws t m d r = lt-ltb (t .lines) (capacity (length ws)) (omega (arith, r .lines))
 
-append-room : (ws : List ℕ) (t : Tally) (o : Op ℕ) (m d : ℕ) → Room ws t (suc m) (identifiers o + d) → append (at ws t) o ≡ ran (at (put ws t o) (next t o)) (t .lines)
+append-room : (ws : List ℕ) (t : Tally) (o : Op ℕ) (m d : ℕ) → RoomForLines ws t (suc m) (identifiers o + d) → append (at ws t) o ≡ ran (at (put ws t o) (next t o)) (t .lines)
 unfolding appendLine
 append-room ws t o m d r = rw (there ws t m _ r, taken-line (t .nid) o, mod-eq-of-lt {n = t .nid + identifiers o} {m = 2 ^ 64} (omega (arith, r .nids)))
 
-room-next : (ws : List ℕ) (t : Tally) (o : Op ℕ) (m d : ℕ) → Room ws t (suc m) (identifiers o + d) → Room (put ws t o) (next t o) m d
+room-next : (ws : List ℕ) (t : Tally) (o : Op ℕ) (m d : ℕ) → RoomForLines ws t (suc m) (identifiers o + d) → RoomForLines (put ws t o) (next t o) m d
 room-next ws t o m d r = record {
   lines = rw (put-length ws (t .lines) (lineOf (t .nid) o)) (omega (arith, r .lines));
   nids = omega (arith, r .nids);
 }
 
-pub laid : {X : Type 0} (p : Prog ℕ X) (n k : ℕ) (ws : List ℕ) (t : Tally) → t .lines ≡ n + k → Room ws t (length (linesOf (placeAfter n) k p)) (taking (linesOf (placeAfter n) k p)) → fitting (linesOf (placeAfter n) k p) ≡ true
+pub laid : {X : Type 0} (p : Prog ℕ X) (n k : ℕ) (ws : List ℕ) (t : Tally) → t .lines ≡ n + k → RoomForLines ws t (length (linesOf (placeAfter n) k p)) (taking (linesOf (placeAfter n) k p)) → fitting (linesOf (placeAfter n) k p) ≡ true
     → Laid n k (length (linesOf (placeAfter n) k p)) ws t p (exec append (at ws t) p)
 unfolding linesOf resultOf numbered taking
 laid (done x) n k ws t e r fit = record {

@@ -11,9 +11,10 @@ use Rattle.builder.specs.declared.Tally.{Tally}
 use Rattle.riscv.specs.declared.Instruction.{Instruction}
 use Rattle.riscv.specs.Refusal.{refusal, first}
 use Rattle.riscv.proofs.First.{Tests, passes}
-use Rattle.lowering_refusals.specs.declared.Counts.{Counts}
-use Rattle.lowering_refusals.specs.declared.Room.{Room}
-use Rattle.lowering_refusals.specs.Refusal.{countsOut, needs, roomOut, flagOut, refusalGiven}
+use Rattle.state.specs.declared.Counts.{Counts}
+use Rattle.state.specs.declared.room.Room.{Room}
+use Rattle.lowering_refusals.specs.Refusal.{needs, roomOut, flagOut, refusalGiven}
+use Rattle.state.specs.Room.{countsOut}
 use Rattle.btor2_list.specs.Limits.{mostLines, mostNid}
 use Rattle.lowering_refusals.proofs.Tests.{from8, from7, fromRecord, from13}
 
@@ -25,21 +26,21 @@ record-passes n ts e = go (eqb n 0) refl e
     go true f e = (eqb-true n 0 f, e)
     go false f e = absurd (let z : _≡_ {A = Bool} (eqb n 0) (eqb 0 0) = (λ i. eqb (e i) 0) in let y : true ≡ false = sym z ∙ f in let x : _≡_ {A = ℕ} 0 1 = cc in omega arith)
 
-module _ (fits : Bool) (ws : List ℕ) (room : Room) (t : Tally) (c : Counts) (i : Instruction) (pc flag : ℕ) (e : refusalGiven fits ws room t c i pc flag ≡ 0) where
+module _ (fits : Bool) (ws : List ℕ) (room : Room) (t : Tally) (c : Counts) (i : Instruction) (address flag : ℕ) (e : refusalGiven fits ws room t c i address flag ≡ 0) where
   abbrev needed : Room
-  needed = needs i pc
+  needed = needs i address
 
   pub counts-in : countsOut mostNid room t c ≡ false
   unfolding refusalGiven
-  counts-in = passes (countsOut mostNid room t c) 9 (from13 ws room t c i pc flag fits) (λ z. omega arith) e .0
+  counts-in = passes (countsOut mostNid room t c) 9 (from13 ws room t c i address flag fits) (λ z. omega arith) e .0
 
   room-in : roomOut room t c needed ≡ false
   unfolding refusalGiven
   room-in =
-      let p13 = passes (countsOut mostNid room t c) 9 (from13 ws room t c i pc flag fits) (λ z. omega arith) e .1 in
-      let pr = passes (not fits) 13 (fromRecord ws room t c i pc flag) (λ z. omega arith) p13 .1 in
-      let p7 = record-passes (refusal i) (from7 ws room t c i pc flag) pr .1 in
-      let p8 = passes (flagOut ws (t .lines) i flag) 7 (from8 ws room t c i pc flag) (λ z. omega arith) p7 .1 in
+      let p13 = passes (countsOut mostNid room t c) 9 (from13 ws room t c i address flag fits) (λ z. omega arith) e .1 in
+      let pr = passes (not fits) 13 (fromRecord ws room t c i address flag) (λ z. omega arith) p13 .1 in
+      let p7 = record-passes (refusal i) (from7 ws room t c i address flag) pr .1 in
+      let p8 = passes (flagOut ws (t .lines) i flag) 7 (from8 ws room t c i address flag) (λ z. omega arith) p7 .1 in
       passes (roomOut room t c needed) 8 [] (λ z. omega arith) p8 .0
 
   -- every count that is to come is within its room

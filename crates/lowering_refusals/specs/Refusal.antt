@@ -1,44 +1,27 @@
 -- The refusals of a lowering (document 01, "Who can be refused, and with what"): "a lowering 9, 13, then 1 to 8. First match wins."
-use Prim.Native.Nat.{ℕ, _+_, _/_}
+use Prim.Native.Nat.{ℕ, _+_}
 use mathlib.Core.Bool.{Bool, cond, not, _&&_, _||_}
 use mathlib.Core.List.{List, [], _∷_}
 use lib.Dec.{eqb, ltb}
 use lib.ListN.{length}
 use Rattle.btor2.specs.declared.NodeType.the-variants.{Bit}
 use Rattle.btor2.specs.Sort.{sortNumber}
-use Rattle.btor2_list.specs.Limits.{mostLines, mostNid, tallyOut}
-use Rattle.btor2_list.specs.Record.{capacity}
+use Rattle.btor2_list.specs.Limits.{mostLines, mostNid}
 use Rattle.btor2_list.specs.Look.{lookAt}
 use Rattle.builder.specs.declared.Tally.{Tally}
-use Rattle.edges.specs.Edges.{edgeStride, edgeCount, dispatchStride}
+use Rattle.edges.specs.Edges.{edgeCount}
 use Rattle.riscv.specs.Class.{class, lineCount, needsFlag, hasBad, hasDispatch}
 use Rattle.riscv.specs.declared.Instruction.{Instruction}
 use Rattle.riscv.specs.declared.Zeros.{Zeros}
 use Rattle.riscv.specs.Zeros.{zerosOf}
 use Rattle.riscv.specs.Kind.{Kind, kindAt}
 use Rattle.riscv.specs.Refusal.{refusal, first}
-use Rattle.roles_check.specs.RolesFit.{valueSort, rolesFit}
+use Rattle.state.specs.RolesFit.{valueSort, rolesFit}
 use Rattle.text.specs.BadName.{badName}
-use Rattle.lowering_refusals.specs.declared.Counts.{Counts}
-use Rattle.lowering_refusals.specs.declared.Room.{Room}
-use Rattle.lowering_refusals.specs.declared.State.{State}
-
--- how many records or bytes lent storage of these lengths holds; a bad is one word
-unfoldable pub roomOf : ℕ → ℕ → ℕ → ℕ → ℕ → Room
-roomOf list names edges dispatches bads = record {
-  lines = capacity list;
-  names = names;
-  edges = edges / edgeStride;
-  dispatches = dispatches / dispatchStride;
-  bads = bads;
-}
-
--- 9: "more than 1,048,576 lines; a next identifier above 2^31 at the start, or above 2^31 + 2,097,152 at a lowering; [..] or a count above its
--- storage"
-abbrev pub countsOut : ℕ → Room → Tally → Counts → Bool
-countsOut most room t c =
-    tallyOut most (room .lines) (t .lines) (t .nid)
-    || (ltb (room .names) (c .names) || (ltb (room .edges) (c .edges) || (ltb (room .dispatches) (c .dispatches) || ltb (room .bads) (c .bads))))
+use Rattle.state.specs.declared.Counts.{Counts}
+use Rattle.state.specs.declared.room.Room.{Room}
+use Rattle.state.specs.declared.State.{State}
+use Rattle.state.specs.Room.{countsOut}
 
 -- what an instruction of a kind appends
 unfoldable pub needsOf : Kind → Zeros → ℕ → Room
@@ -66,14 +49,14 @@ flagOut ws lines i flag =
 
 -- the tests of the record and of what is lent for it, whose numbers come after 9 and 13; the record's own are 1 to 6
 abbrev pub testsOfRecord : List ℕ → Room → Tally → Counts → Instruction → ℕ → ℕ → List (Bool × ℕ)
-testsOfRecord ws room t c i pc flag =
-    (not (eqb (refusal i) 0), refusal i) ∷ (flagOut ws (t .lines) i flag, 7) ∷ (roomOut room t c (needs i pc), 8) ∷ []
+testsOfRecord ws room t c i address flag =
+    (not (eqb (refusal i) 0), refusal i) ∷ (flagOut ws (t .lines) i flag, 7) ∷ (roomOut room t c (needs i address), 8) ∷ []
 
 -- the number of the first refusal that applies, or 0. `fits` is the answer of the test of the roles, 13.
 unfoldable pub refusalGiven : Bool → List ℕ → Room → Tally → Counts → Instruction → ℕ → ℕ → ℕ
-refusalGiven fits ws room t c i pc flag =
-    first ((countsOut mostNid room t c, 9) ∷ (not fits, 13) ∷ testsOfRecord ws room t c i pc flag)
+refusalGiven fits ws room t c i address flag =
+    first ((countsOut mostNid room t c, 9) ∷ (not fits, 13) ∷ testsOfRecord ws room t c i address flag)
 
 -- 13: "a role is outside the list, not a value line, or of the wrong sort"
 abbrev pub refusalOf : List ℕ → Room → State → Instruction → ℕ → ℕ → ℕ
-refusalOf ws room st i pc flag = refusalGiven (rolesFit ws (st .tally .lines) 0 (st .roles)) ws room (st .tally) (st .counts) i pc flag
+refusalOf ws room st i address flag = refusalGiven (rolesFit ws (st .tally .lines) 0 (st .roles)) ws room (st .tally) (st .counts) i address flag

@@ -1,8 +1,7 @@
-// What passes from call to call, how much lent storage holds, and the refusals of a lowering but 13, whose test is roles_check's.
+// What an instruction needs of lent storage, and the refusals of a lowering but 9 and 13, whose tests are state's.
 use btor2::BIT;
 use btor2::NodeRef;
 use btor2_list::MOST_LINES;
-use btor2_list::tally_out;
 use builder::Tally;
 use riscv::Class;
 use riscv::Instruction;
@@ -13,16 +12,17 @@ use riscv::has_dispatch;
 use riscv::line_count;
 use riscv::needs_flag;
 use riscv::zeros_of;
-use roles::ROLES;
+use state::Counts;
+use state::Room;
 ghost use mathlib.Core.Path.{_≡_};
-ghost use Rattle.lowering_refusals.specs.Refusal.{roomOf, countsOut, needsOf, needs as needsAt, roomOut, testsOfRecord};
+ghost use Rattle.lowering_refusals.specs.Refusal.{needsOf, needs as needsAt, roomOut, testsOfRecord};
 ghost use mathlib.Core.Bool.{cond, not, _&&_};
 ghost use lib.Dec.{eqb, ltb};
 ghost use lib.ListN.{length};
 ghost use Rattle.btor2.specs.declared.NodeType.the-variants.{Bit};
 ghost use Rattle.btor2.specs.Sort.{sortNumber};
 ghost use Rattle.btor2_list.specs.Look.{lookAt};
-ghost use Rattle.roles_check.specs.RolesFit.{valueSort};
+ghost use Rattle.state.specs.RolesFit.{valueSort};
 ghost use Rattle.text.specs.BadName.{badName};
 ghost use Rattle.riscv.specs.Class.{class as classAt, classNeedsFlag};
 ghost use Rattle.riscv.specs.Zeros.{zerosOf};
@@ -30,62 +30,12 @@ ghost use Prim.Native.Nat.{_+_};
 ghost use Rattle.riscv.specs.Kind.{kindAt};
 ghost use Rattle.riscv.specs.Refusal.{first};
 
-// The number of a count above its storage.
-pub const BAD_COUNT: u64 = 9;
-
-// How much of each lent list and of our name area is in use, the list of lines apart.
-pub struct Counts {
-    pub names: usize,
-    pub edges: usize,
-    pub dispatches: usize,
-    pub bads: usize,
-}
-
-// What passes from call to call: the tally, the counts, and the roles.
-pub struct State {
-    pub tally: Tally,
-    pub counts: Counts,
-    pub roles: [NodeRef; ROLES],
-}
-
-// How much lent storage holds, or an instruction needs: lines, bytes of our name area, in-edges, dispatches, bads.
-pub struct Room {
-    pub lines: usize,
-    pub names: usize,
-    pub edges: usize,
-    pub dispatches: usize,
-    pub bads: usize,
-}
-
 // The refusal of a record, 0 where there is none, what it needs, its kind's class, and which of its fields are zero.
 pub struct Weighed {
     pub refusal: u64,
     pub needs: Room,
     pub class: Class,
     pub zeros: Zeros,
-}
-
-// How much lent storage of these lengths holds.
-pub fn room_of(list: usize, names: usize, edges: usize, dispatches: usize, bads: usize) -> Room
-    ensures { λ r. ⌜ r ≡ roomOf list names edges dispatches bads ⌝ }
-{
-    let lines = btor2_list::capacity(list);
-    Room {
-        lines,
-        names,
-        edges: edges / edges::EDGE,
-        dispatches: dispatches / dispatches::DISPATCH,
-        bads,
-    }
-}
-
-// 9: too many lines, too large a next identifier, or a count above its storage.
-pub fn counts_out(most: u64, room: Room, t: Tally, c: Counts) -> bool
-    ensures { λ r. ⌜ r ≡ countsOut most room t c ⌝ }
-{
-    tally_out(most, room.lines, t.lines, t.nid)
-        | ((room.names < c.names)
-            | ((room.edges < c.edges) | ((room.dispatches < c.dispatches) | (room.bads < c.bads))))
 }
 
 // What an instruction appends.
@@ -188,7 +138,7 @@ fn flag_out(list: &[u64], lines: usize, class: Class, z: Zeros, flag: NodeRef) -
     ensures { λ r. ⌜ r ≡ (classNeedsFlag class z && not (eqb (valueSort (lookAt (now (list .entry)) lines (flag .0))) (sortNumber Bit))) ⌝ }
 {
     if needs_flag(class, z) {
-        return roles_check::value_sort(list, lines, flag) != BIT;
+        return state::value_sort(list, lines, flag) != BIT;
     }
     false
 }
@@ -206,7 +156,7 @@ fn room_out(room: Room, t: Tally, c: Counts, n: Room) -> bool
 }
 
 // Whether so many more than a count are more than there is room for, with no sum that could wrap.
-pub fn exceeds(room: usize, count: usize, more: usize) -> bool
+fn exceeds(room: usize, count: usize, more: usize) -> bool
     ensures { λ r. ⌜ r ≡ ltb room (count + more) ⌝ }
 {
     if room < count {

@@ -17,7 +17,7 @@ use Rattle.btor2.proofs.LineIs.{lineIs}
 use Rattle.btor2.specs.Value.{Value, number, Env, evalOp, values, value}
 use Rattle.btor2.proofs.Sort.{same-sort}
 use Rattle.btor2.proofs.SortRule.{both, mark-line}
-use Rattle.program.specs.Lines.{placeAfter}
+use Rattle.builder.specs.Lines.{placeAfter}
 use Rattle.lowering_laws.proofs.Template.{Role, Ref, resolve}
 use Rattle.meaning.proofs.Walk.{placed, look, read, whole, seen}
 use Rattle.meaning.proofs.Roles.{sortOf, known, sorts, sortAt, has}

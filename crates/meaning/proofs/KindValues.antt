@@ -24,7 +24,7 @@ use Rattle.riscv.specs.Format.{format, immediateOut}
 use Rattle.riscv.specs.Refusal.{amountOut, zeroSrliw}
 use Rattle.riscv.specs.Manual.{manual, loadAt, storeAt}
 use Rattle.riscv.specs.Memory.{bytesOf, cellsWith}
-use Rattle.models.specs.Model.{constantOf}
+use Rattle.riscv.specs.Constant.{constantOf}
 use Rattle.lowering_laws.proofs.Template.{Role, flag, rs1, rs2, memoryNode, registerFlow, memoryFlow, template}
 use Rattle.meaning.specs.Access.{InOneWord, excluded}
 use Rattle.meaning.proofs.Agrees.{Flowed, outcome, Agrees}

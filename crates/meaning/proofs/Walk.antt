@@ -10,7 +10,7 @@ use Rattle.btor2.specs.Op.{Op, mapOp}
 use Rattle.btor2.specs.Walk.{walk}
 use Rattle.btor2.proofs.Op.{mapOp-mapOp}
 use Rattle.btor2.proofs.Walk.{walk-append, length-walk}
-use Rattle.program.specs.Lines.{placeAfter}
+use Rattle.builder.specs.Lines.{placeAfter}
 use Rattle.lowering_laws.proofs.Template.{Role, Ref, role, loc, resolve}
 
 -- a template's lines as they stand after n others

@@ -19,15 +19,15 @@ use Rattle.bitvec.proofs.Sext.{sext-mod}
 use Rattle.bitvec.proofs.Memory.{load-whole}
 use Rattle.bitvec.proofs.Word as Word
 use Rattle.btor2.specs.Value.{store}
-use Rattle.models.specs.Model as Model
+use Rattle.riscv.specs.Constant as Constant
 use Rattle.riscv.specs.Manual.{loadAt, storeAt}
 use Rattle.riscv.specs.Memory.{bytesOf, cellsWith}
 use Rattle.riscv.proofs.InOneCell.{load-agree, load-in-cell, store-hit, store-here, store-there}
 
 -- ---- constants
 
-pub upper-is : (imm : ℕ) → imm < 2 ^ 20 → Model.upper imm ≡ sext 32 64 (imm * 2 ^ 12)
-unfolding Model.upper
+pub upper-is : (imm : ℕ) → imm < 2 ^ 20 → Constant.upper imm ≡ sext 32 64 (imm * 2 ^ 12)
+unfolding Constant.upper
 upper-is imm h =
     let e : imm % 2 ^ 20 ≡ imm = mod-eq-of-lt h in
     rw e
@@ -35,8 +35,8 @@ upper-is imm h =
     (λ l. rw (le-ltb imm (2 ^ 19) l) (sym (Word.lui-high imm l h)))
     (λ l. rw (lt-ltb imm (2 ^ 19) l) (sym (Word.lui-low imm l))))
 
-pub upper-fits : (imm : ℕ) → Model.upper imm < 2 ^ 64
-unfolding Model.upper
+pub upper-fits : (imm : ℕ) → Constant.upper imm < 2 ^ 64
+unfolding Constant.upper
 upper-fits imm = go (ltb (imm % 2 ^ 20) (2 ^ 19))
   where
     go : (t : Bool) → cond t (imm % 2 ^ 20 * 2 ^ 12) (imm % 2 ^ 20 * 2 ^ 12 + (2 ^ 64 - 2 ^ 32)) < 2 ^ 64

@@ -4,8 +4,8 @@ use Prim.Native.Nat.{ℕ, _-_, _^_}
 use mathlib.Core.Bool.{Bool, true, false}
 use Rattle.btor2.specs.declared.NodeType.the-variants.{Word, Memory}
 use Rattle.btor2.specs.Op.{add, sub, mul, sll, ult}
-use Rattle.program.specs.Prog.{Prog, done, _>>=_}
-use Rattle.program.specs.OneLine.{newConst, newRead, newWrite, newBin, newIte, newAndWord, newNotWord}
+use Rattle.builder.specs.Prog.{Prog, done, _>>=_}
+use Rattle.builder.specs.OneLine.{newConst, newRead, newWrite, newBin, newIte, newAndWord, newNotWord}
 use Rattle.builder_ops.specs.Composed.{newOr, newShiftRight}
 use Rattle.models.specs.Places.{Operands, Flows, Modeled, Counted, register, memory, withMemory, withAccess, gives}
 

@@ -4,8 +4,8 @@ use mathlib.Core.Bool.{Bool, true, false, cond}
 use Rattle.btor2.specs.declared.NodeType.the-variants.{Bit, Word}
 use Rattle.btor2.specs.Op.{Bin, add, mul, sdiv, urem, sll, ult}
 use Rattle.riscv.specs.declared.Zeros.{Zeros}
-use Rattle.program.specs.Prog.{Prog, done, _>>=_}
-use Rattle.program.specs.OneLine.{newConst, newBin, newExt, newIte, newAndWord, newNotBit}
+use Rattle.builder.specs.Prog.{Prog, done, _>>=_}
+use Rattle.builder.specs.OneLine.{newConst, newBin, newExt, newIte, newAndWord, newNotBit}
 use Rattle.builder_ops.specs.Composed.{newSra, newSextBy, newSext32, checkAdditionOverflow, checkMultiplicationOverflow}
 use Rattle.models.specs.Places.{Operands, Flows, Modeled, nothing, register, branch, withDivision, withRemainder, withAddition, withMultiplication, withEcall, gives}
 

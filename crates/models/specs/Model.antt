@@ -1,43 +1,18 @@
 -- What each kind appends: the first `match` of unicorn's `translate_to_model`, and Jalr's bad line.
-use Prim.Native.Nat.{ℕ, _+_, _-_, _*_, _%_, _^_}
-use mathlib.Core.Bool.{Bool, true, false, cond}
-use mathlib.Core.List.{List, [], _∷_}
-use lib.Dec.{eqb, ltb}
+use Prim.Native.Nat.{ℕ, _-_, _^_}
+use mathlib.Core.Bool.{Bool, true, false}
 use Rattle.btor2.specs.declared.Name.{Name}
 use Rattle.btor2.specs.declared.NodeType.the-variants.{Word, Memory}
 use Rattle.btor2.specs.Op.{add, sub, udiv, sdiv, sll, srl, ult}
-use Rattle.riscv.specs.Kind.{Kind, Lui, Auipc, Lb, Lh, Lw, Ld, Lbu, Lhu, Sb, Sh, Sw, Sd, Addi, Sltiu, Xori, Ori, Andi, Slli, Srli, Srai, Addiw, Slliw, Srliw, Sraiw, Add, Sub, Sll, Sltu, Srl, Sra, Or, And, Mul, Div, Divu, Remu, Addw, Divw, Subw, Sllw, Mulw, Beq, Bne, Blt, Bge, Bltu, Bgeu, Jal, Jalr, Ecall, kindNumber}
+use Rattle.riscv.specs.Kind.{Kind, Lui, Auipc, Lb, Lh, Lw, Ld, Lbu, Lhu, Sb, Sh, Sw, Sd, Addi, Sltiu, Xori, Ori, Andi, Slli, Srli, Srai, Addiw, Slliw, Srliw, Sraiw, Add, Sub, Sll, Sltu, Srl, Sra, Or, And, Mul, Div, Divu, Remu, Addw, Divw, Subw, Sllw, Mulw, Beq, Bne, Blt, Bge, Bltu, Bgeu, Jal, Jalr, Ecall}
 use Rattle.riscv.specs.Class.{class, hasBad}
 use Rattle.riscv.specs.declared.Zeros.{Zeros}
-use Rattle.program.specs.Prog.{Prog, done, _>>=_}
-use Rattle.program.specs.OneLine.{newBin, newIte, newEq, newAndWord, newBad}
+use Rattle.builder.specs.Prog.{Prog, done, _>>=_}
+use Rattle.builder.specs.OneLine.{newBin, newIte, newEq, newAndWord, newBad}
 use Rattle.builder_ops.specs.Composed.{newNeq, newUgte, newSlt, newSgte, newOr, newXor, newSra}
 use Rattle.models.specs.Places.{Operands, Flows, Outcome, Modeled, nothing, register, memory, branch, gives}
 use Rattle.models.specs.Counters.{modelLoad, modelStore, modelLd, modelSd}
 use Rattle.models.specs.Kinds.{constant, link, withConstant, modelAddi, modelAddiw, modelSltiu, modelSlliw, shiftedBack, withRegister, modelSltu, shifted, modelSllw, summed, summedWord, modelMul, modelMulw, divided, modelDivw, modelRemu, modelBranch, modelEcall}
-
--- `((imm as i32) << 12) as u64`
-unfoldable pub upper : ℕ → ℕ
-upper imm = cond (ltb (imm % 2 ^ 20) (2 ^ 19)) (imm % 2 ^ 20 * 2 ^ 12) (imm % 2 ^ 20 * 2 ^ 12 + (2 ^ 64 - 2 ^ 32))
-
--- what a table has for a kind, or x where it has no row for it
-abbrev pub inTable : ℕ → Kind → List (Kind × ℕ) → ℕ
-inTable x k [] = x
-inTable x k (row ∷ rows) = cond (eqb (kindNumber k) (kindNumber (row .0))) (row .1) (inTable x k rows)
-
--- the constant that a kind's lines have: its immediate, but for these kinds
-unfoldable pub constantOf : Kind → ℕ → ℕ → ℕ
-constantOf k imm address =
-    inTable imm k
-    ((Lui, upper imm)
-    ∷ (Auipc, (upper imm + address) % 2 ^ 64)
-    ∷ (Srai, imm % 64)
-    ∷ (Slliw, (imm + 32) % 2 ^ 64)
-    ∷ (Srliw, (imm + 32) % 2 ^ 64)
-    ∷ (Sraiw, imm % 64 + 32)
-    ∷ (Jal, (address + 4) % 2 ^ 64)
-    ∷ (Jalr, (address + 4) % 2 ^ 64)
-    ∷ [])
 
 module _ {A : Type 0} where
   -- imm is its constant

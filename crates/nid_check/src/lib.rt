@@ -2,10 +2,10 @@
 use btor2::NodeRef;
 use btor2_list::Found;
 use btor2_list::Line;
+use btor2_list::LineOperator;
 use btor2_list::capacity;
 use btor2_list::get;
-use line_operator::Operator;
-use line_operator::operator_of;
+use btor2_list::operator_of;
 ghost use mathlib.Core.Path.{_≡_};
 ghost use mathlib.Core.Bool.{cond};
 ghost use Prim.Native.Nat.{_+_, _<_};
@@ -17,10 +17,10 @@ ghost use Rattle.nid_check.specs.Identifiers.{reserved, nidsOutWords};
 ghost use Rattle.nid_check.specs.Inside.{nidOut, riseOf};
 
 // The last identifier that a sort is printed as.
-pub const LAST_SORT: u64 = 17;
+const LAST_SORT: u64 = 17;
 
 // How far the identifiers of one more line go, or that they break the rule.
-pub enum Rise {
+enum Rise {
     To(u64),
     Out,
 }
@@ -91,7 +91,7 @@ fn has_init(line: Line) -> bool
     ensures { λ r. ⌜ r ≡ hasInit (opOf line) ⌝ }
 {
     match operator_of(line) {
-        Operator::StateInit(_, _, _) => true,
+        LineOperator::StateInit(_, _, _) => true,
         _ => false,
     }
 }

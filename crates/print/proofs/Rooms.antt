@@ -12,7 +12,7 @@ use lib.ListN.{length, take, drop, length-append, length-take}
 use borrow.Author.Tests.{lt-ltb}
 use Rattle.text.specs.Numeral.{decimalText}
 use Rattle.text.proofs.Laws.{numeral-length}
-use Rattle.node_text.proofs.Split.{wider}
+use Rattle.row_text.proofs.Split.{wider}
 use Rattle.btor2.specs.declared.Name.{Name}
 use Rattle.btor2.specs.declared.NodeType.{NodeType}
 use Rattle.btor2.specs.declared.NodeType.the-variants.{Bit, Word, Memory, Input1Byte, Input2Byte, Input3Byte, Input4Byte, Input5Byte, Input6Byte, Input7Byte}
@@ -24,12 +24,12 @@ use Rattle.btor2_list.specs.declared.Line.{Line}
 use Rattle.btor2_list.specs.Record.{hasName, recordAt, capacity}
 use Rattle.btor2_list.specs.Node.{Node, withSort, opOf}
 use Rattle.text.specs.Ascii.{ascii}
-use Rattle.node_text.specs.Row.{nameText, numbersText, rowText}
-use Rattle.record_text.specs.Line.{binWord, lineText, printedName}
+use Rattle.row_text.specs.Row.{nameText, numbersText, rowText}
+use Rattle.line_text.specs.Record.{binWord, lineText, printedName}
 use Rattle.line_text.specs.Line.{nodes, nodeAt, nidAt, nodeText, runText}
 use Rattle.print.proofs.Each.{Each, none, _▹_, at}
 use Rattle.btor2_list.proofs.NoKind.{outside}
-use Rattle.record_text.proofs.KnownKinds.{of-kind}
+use Rattle.line_text.proofs.KnownKinds.{of-kind}
 use Rattle.line_text.proofs.Listed.{got}
 use Rattle.line_text.proofs.Runs.{run-none, run-on}
 use Rattle.print.specs.Printing.{nidsTooLarge}

@@ -91,8 +91,8 @@ fn survey(list: &[u64], lines: usize, host: usize, ours: usize) -> usize
     let mut names = 0;
     let mut i = 0;
     while i < lines {
-        let nid = line_text::nid_at(list, lines, NodeRef(i));
-        if MOST_NID < nid.0 {
+        let own = line_text::nid_at(list, lines, NodeRef(i));
+        if MOST_NID < own.0 {
             return LAST;
         }
         names = with_name(list_check::check_line(list, i, host, ours), names);
@@ -141,7 +141,7 @@ fn run_outside(lines: usize, from: usize, count: usize) -> bool
 
 // The first of 9 and 11 that applies to a whole list, or 0: too many lines, a count above its storage or too large an identifier; a line that is
 // not well formed. `host` and `ours` are the lengths of the two name areas. Nothing is written.
-pub fn check_whole(list: &[u64], lines: usize, host: usize, ours: usize) -> u64
+fn check_whole(list: &[u64], lines: usize, host: usize, ours: usize) -> u64
     ensures { λ r. ⌜ r ≡ wholeRefusal (now (list .entry)) lines host ours ⌝ }
 {
     if list_out(list, lines) {

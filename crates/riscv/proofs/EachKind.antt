@@ -1,9 +1,8 @@
 -- A test that antt computes for every kind, and for each choice of the fields that are zero, holds of each: a new kind changes nothing in a
 -- proof by it. Assumes nothing.
-use Prim.Native.Nat.{ℕ, _≤_, _<_}
-use mathlib.Core.Path.{_≡_, ap, sym, subst, _∙_}
+use Prim.Native.Nat.{ℕ, _<_}
+use mathlib.Core.Path.{_≡_, sym, subst, _∙_}
 use mathlib.Core.Bool.{Bool, true, false, _&&_}
-use native.Mathlib.Omega.{arith}
 use lib.Dec.{T, lit<}
 use Rattle.bitvec.proofs.Base.{by-le}
 use Rattle.bitvec.proofs.Below.{allBelow, at, left, right}

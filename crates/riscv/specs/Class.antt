@@ -2,16 +2,16 @@
 -- "Lines appended" and refusals 5 and 7.
 use Prim.Native.Nat.{ℕ, _+_}
 use mathlib.Core.Bool.{Bool, true, false, cond, not, _||_, _&&_}
-use Rattle.riscv.specs.Kind.{Kind, row}
+use Rattle.riscv.specs.Kind.{Kind, rowOf}
 use Rattle.riscv.specs.declared.Zeros.{Zeros}
 use Rattle.riscv.specs.declared.Class.{Class}
 use Rattle.riscv.specs.declared.Class.the-variants.{Plain, Access, Addi, Branch, Jal, Jalr, Ecall}
 
 abbrev pub class : Kind → Class
-class k = row k .class
+class k = rowOf k .class
 
 abbrev pub plainCount : Kind → ℕ
-plainCount k = row k .lines
+plainCount k = rowOf k .lines
 
 -- the lines that a kind of a class appends
 abbrev pub countOf : Class → ℕ → Zeros → ℕ

@@ -5,10 +5,10 @@ use mathlib.Core.Bool.{Bool, true, false, _&&_, _||_, not}
 use lib.Dec.{eqb, ltb, leb}
 use Rattle.riscv.specs.declared.Format.{Format}
 use Rattle.riscv.specs.declared.Format.the-variants.{R, I, S, B, U, J, System}
-use Rattle.riscv.specs.Kind.{Kind, row}
+use Rattle.riscv.specs.Kind.{Kind, rowOf}
 
 abbrev pub format : Kind → Format
-format k = row k .format
+format k = rowOf k .format
 
 -- x0 to x31
 abbrev pub lastRegister : ℕ

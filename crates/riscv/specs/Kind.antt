@@ -42,64 +42,65 @@ pub record Row : Type 0 where
 abbrev is : ℕ → String → Format → Class → ℕ → Row
 is number name format class lines = record { number = number; name = name; format = format; class = class; lines = lines }
 
--- ECALL is encoded as an I-format instruction, all of whose fields are fixed: none of the record's is used
-abbrev pub row : Kind → Row
-row Lui = is 0 "Lui" U Plain 2
-row Auipc = is 1 "Auipc" U Plain 2
-row Lb = is 2 "Lb" I Access 17
-row Lh = is 3 "Lh" I Access 17
-row Lw = is 4 "Lw" I Access 17
-row Ld = is 5 "Ld" I Access 10
-row Lbu = is 6 "Lbu" I Access 13
-row Lhu = is 7 "Lhu" I Access 13
-row Sb = is 8 "Sb" S Access 27
-row Sh = is 9 "Sh" S Access 27
-row Sw = is 10 "Sw" S Access 27
-row Sd = is 11 "Sd" S Access 5
-row Addi = is 12 "Addi" I Class.Addi 12
-row Sltiu = is 13 "Sltiu" I Plain 4
-row Xori = is 14 "Xori" I Plain 8
-row Ori = is 15 "Ori" I Plain 6
-row Andi = is 16 "Andi" I Plain 3
-row Slli = is 17 "Slli" I Plain 3
-row Srli = is 18 "Srli" I Plain 3
-row Srai = is 19 "Srai" I Plain 7
-row Addiw = is 20 "Addiw" I Plain 10
-row Slliw = is 21 "Slliw" I Plain 9
-row Srliw = is 22 "Srliw" I Plain 5
-row Sraiw = is 23 "Sraiw" I Plain 9
-row Add = is 24 "Add" R Plain 11
-row Sub = is 25 "Sub" R Plain 11
-row Sll = is 26 "Sll" R Plain 4
-row Sltu = is 27 "Sltu" R Plain 3
-row Srl = is 28 "Srl" R Plain 4
-row Sra = is 29 "Sra" R Plain 8
-row Or = is 30 "Or" R Plain 5
-row And = is 31 "And" R Plain 2
-row Mul = is 32 "Mul" R Plain 16
-row Div = is 33 "Div" R Plain 3
-row Divu = is 34 "Divu" R Plain 3
-row Remu = is 35 "Remu" R Plain 3
-row Addw = is 36 "Addw" R Plain 18
-row Divw = is 37 "Divw" R Plain 15
-row Subw = is 38 "Subw" R Plain 18
-row Sllw = is 39 "Sllw" R Plain 11
-row Mulw = is 40 "Mulw" R Plain 35
-row Beq = is 41 "Beq" B Branch 2
-row Bne = is 42 "Bne" B Branch 3
-row Blt = is 43 "Blt" B Branch 5
-row Bge = is 44 "Bge" B Branch 6
-row Bltu = is 45 "Bltu" B Branch 2
-row Bgeu = is 46 "Bgeu" B Branch 3
-row Jal = is 47 "Jal" J Class.Jal 2
-row Jalr = is 48 "Jalr" I Class.Jalr 2
-row Ecall = is 49 "Ecall" System Class.Ecall 1
+-- Loads and stores are Access; Addi, Jal, Jalr and Ecall are each a class of their own.
+-- ECALL is encoded as an I-format instruction, all of whose fields are fixed: none of the record's is used.
+abbrev pub rowOf : Kind → Row
+rowOf Lui = is 0 "Lui" U Plain 2
+rowOf Auipc = is 1 "Auipc" U Plain 2
+rowOf Lb = is 2 "Lb" I Access 17
+rowOf Lh = is 3 "Lh" I Access 17
+rowOf Lw = is 4 "Lw" I Access 17
+rowOf Ld = is 5 "Ld" I Access 10
+rowOf Lbu = is 6 "Lbu" I Access 13
+rowOf Lhu = is 7 "Lhu" I Access 13
+rowOf Sb = is 8 "Sb" S Access 27
+rowOf Sh = is 9 "Sh" S Access 27
+rowOf Sw = is 10 "Sw" S Access 27
+rowOf Sd = is 11 "Sd" S Access 5
+rowOf Addi = is 12 "Addi" I Class.Addi 12
+rowOf Sltiu = is 13 "Sltiu" I Plain 4
+rowOf Xori = is 14 "Xori" I Plain 8
+rowOf Ori = is 15 "Ori" I Plain 6
+rowOf Andi = is 16 "Andi" I Plain 3
+rowOf Slli = is 17 "Slli" I Plain 3
+rowOf Srli = is 18 "Srli" I Plain 3
+rowOf Srai = is 19 "Srai" I Plain 7
+rowOf Addiw = is 20 "Addiw" I Plain 10
+rowOf Slliw = is 21 "Slliw" I Plain 9
+rowOf Srliw = is 22 "Srliw" I Plain 5
+rowOf Sraiw = is 23 "Sraiw" I Plain 9
+rowOf Add = is 24 "Add" R Plain 11
+rowOf Sub = is 25 "Sub" R Plain 11
+rowOf Sll = is 26 "Sll" R Plain 4
+rowOf Sltu = is 27 "Sltu" R Plain 3
+rowOf Srl = is 28 "Srl" R Plain 4
+rowOf Sra = is 29 "Sra" R Plain 8
+rowOf Or = is 30 "Or" R Plain 5
+rowOf And = is 31 "And" R Plain 2
+rowOf Mul = is 32 "Mul" R Plain 16
+rowOf Div = is 33 "Div" R Plain 3
+rowOf Divu = is 34 "Divu" R Plain 3
+rowOf Remu = is 35 "Remu" R Plain 3
+rowOf Addw = is 36 "Addw" R Plain 18
+rowOf Divw = is 37 "Divw" R Plain 15
+rowOf Subw = is 38 "Subw" R Plain 18
+rowOf Sllw = is 39 "Sllw" R Plain 11
+rowOf Mulw = is 40 "Mulw" R Plain 35
+rowOf Beq = is 41 "Beq" B Branch 2
+rowOf Bne = is 42 "Bne" B Branch 3
+rowOf Blt = is 43 "Blt" B Branch 5
+rowOf Bge = is 44 "Bge" B Branch 6
+rowOf Bltu = is 45 "Bltu" B Branch 2
+rowOf Bgeu = is 46 "Bgeu" B Branch 3
+rowOf Jal = is 47 "Jal" J Class.Jal 2
+rowOf Jalr = is 48 "Jalr" I Class.Jalr 2
+rowOf Ecall = is 49 "Ecall" System Class.Ecall 1
 
 abbrev pub kindNumber : Kind → ℕ
-kindNumber k = row k .number
+kindNumber k = rowOf k .number
 
 abbrev pub kindName : Kind → List ℕ
-kindName k = bytes (row k .name)
+kindName k = bytes (rowOf k .name)
 
 -- the names, each at its kind's number
 unfoldable pub kindNames : List (List ℕ)

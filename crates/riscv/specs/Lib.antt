@@ -7,3 +7,4 @@ pub mod Coded
 pub mod Refusal
 pub mod Manual
 pub mod Memory
+pub mod Constant

@@ -1,4 +1,7 @@
 // RV64 instructions as they come in: the kinds with what is said of each, the record, and the refusals 1 to 6.
+mod constant;
+
+pub use constant::constant_of;
 ghost use mathlib.Core.Path.{_≡_};
 ghost use Prim.Native.Nat.{_+_, _≤_};
 ghost use mathlib.Core.Bool.{_&&_, _||_, not, cond};
@@ -9,7 +12,7 @@ ghost use Rattle.riscv.specs.Coded.{coded};
 ghost use Rattle.riscv.specs.Format.{format, lastRegister, registersOut, immediateOut, even, writesRd};
 ghost use Rattle.riscv.specs.Class.{class, plainCount, countOf, lineCount, mostAppended, classNeedsFlag, isJalr, takesZeroRd, hasBad, hasDispatch};
 ghost use Rattle.riscv.specs.Zeros.{zerosOf};
-ghost use Rattle.riscv.specs.Refusal.{refusal, amountOut, zeroSrliw, zeroRd, indirectOffset};
+ghost use Rattle.riscv.specs.Refusal.{refusal, amountOut, zeroSrliw, indirectOffset};
 
 // The registers are x0 to x31.
 pub const LAST_REGISTER: u64 = 31;
@@ -134,7 +137,7 @@ pub struct Zeros {
 }
 
 // The manual's instruction formats. Of Ecall no field is used.
-pub enum Format {
+enum Format {
     R,
     I,
     S,

@@ -20,7 +20,7 @@ use Rattle.btor2_list.specs.View.{view}
 use Rattle.btor2_list.specs.Look.{seenAs, lookAt}
 use Rattle.btor2_list.proofs.View.{view-length}
 use Rattle.btor2_list.proofs.Seen.{look-line, look-past}
-use Rattle.roles_check.specs.RolesFit.{valueSort}
+use Rattle.state.specs.RolesFit.{valueSort}
 use Rattle.lowering_laws.specs.Lines.{numbered}
 use Rattle.meaning.specs.Lines.{operators}
 use Rattle.meaning.proofs.Behind.{inside}

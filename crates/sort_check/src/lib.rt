@@ -5,12 +5,12 @@ use btor2::NodeType;
 use btor2::get_sort;
 use btor2_list::Found;
 use btor2_list::Line;
+use btor2_list::LineOperator;
 use btor2_list::Looked;
 use btor2_list::capacity;
 use btor2_list::get;
 use btor2_list::look;
-use line_operator::Operator;
-use line_operator::operator_of;
+use btor2_list::operator_of;
 ghost use mathlib.Core.Path.{_≡_};
 ghost use mathlib.Core.Bool.{cond, true, _&&_};
 ghost use mathlib.Core.Bool as B;
@@ -20,7 +20,7 @@ ghost use Rattle.btor2.specs.Sort.{sameSort};
 ghost use Rattle.btor2.specs.SortRule.{hasSort, is, bitOrWord, rule, isStateOp};
 ghost use Rattle.btor2_list.specs.Record.{holds, recordAt};
 ghost use Rattle.btor2_list.specs.Node.{opOf, noName};
-ghost use Rattle.line_operator.specs.Operator.{opFrom};
+ghost use Rattle.btor2_list.specs.Operator.{opFrom};
 ghost use Rattle.sort_check.specs.Broken.{sortBrokenWords};
 ghost use Rattle.sort_check.specs.Marks.{markAt};
 
@@ -51,26 +51,26 @@ fn line_breaks(list: &[u64], i: usize) -> bool
 }
 
 // The rule of line i, which says `o`.
-pub fn meets_rule(list: &[u64], i: usize, o: Operator) -> bool
+pub fn meets_rule(list: &[u64], i: usize, o: LineOperator) -> bool
     ensures { λ r. ⌜ r ≡ rule (mapOp (markAt (now (list .entry)) i) (opFrom o)) ⌝ }
 {
     match o {
-        Operator::Const(s, n) => const_fits(s, n),
-        Operator::Read(m, a) => are(list, i, NodeType::Memory, m, NodeType::Word, a),
-        Operator::Write(m, a, v) => write_fits(list, i, m, a, v),
-        Operator::Binary(_, a, b) => are(list, i, NodeType::Word, a, NodeType::Word, b),
-        Operator::Ext(s, a) => ext_fits(list, i, s, a),
-        Operator::Ite(s, c, a, b) => ite_fits(list, i, s, c, a, b),
-        Operator::Eq(a, b) => eq_fits(list, i, a, b),
-        Operator::And(s, a, b) => gate_fits(list, i, s, a, b),
-        Operator::Or(s, a, b) => gate_fits(list, i, s, a, b),
-        Operator::Not(s, a) => not_fits(list, i, s, a),
-        Operator::State(_, _) => true,
-        Operator::StateInit(s, a, _) => init_fits(list, i, s, a),
-        Operator::Next(s, a, b) => next_fits(list, i, s, a, b),
-        Operator::Input(_, _) => true,
-        Operator::Bad(a, _) => is_of(list, i, NodeType::Bit, a),
-        Operator::Unknown => false,
+        LineOperator::Const(s, n) => const_fits(s, n),
+        LineOperator::Read(m, a) => are(list, i, NodeType::Memory, m, NodeType::Word, a),
+        LineOperator::Write(m, a, v) => write_fits(list, i, m, a, v),
+        LineOperator::Binary(_, a, b) => are(list, i, NodeType::Word, a, NodeType::Word, b),
+        LineOperator::Ext(s, a) => ext_fits(list, i, s, a),
+        LineOperator::Ite(s, c, a, b) => ite_fits(list, i, s, c, a, b),
+        LineOperator::Eq(a, b) => eq_fits(list, i, a, b),
+        LineOperator::And(s, a, b) => gate_fits(list, i, s, a, b),
+        LineOperator::Or(s, a, b) => gate_fits(list, i, s, a, b),
+        LineOperator::Not(s, a) => not_fits(list, i, s, a),
+        LineOperator::State(_, _) => true,
+        LineOperator::StateInit(s, a, _) => init_fits(list, i, s, a),
+        LineOperator::Next(s, a, b) => next_fits(list, i, s, a, b),
+        LineOperator::Input(_, _) => true,
+        LineOperator::Bad(a, _) => is_of(list, i, NodeType::Bit, a),
+        LineOperator::Unknown => false,
     }
 }
 
@@ -219,8 +219,8 @@ fn is_state(line: Line) -> bool
     ensures { λ r. ⌜ r ≡ isStateOp (opOf line) ⌝ }
 {
     match operator_of(line) {
-        Operator::State(_, _) => true,
-        Operator::StateInit(_, _, _) => true,
+        LineOperator::State(_, _) => true,
+        LineOperator::StateInit(_, _, _) => true,
         _ => false,
     }
 }

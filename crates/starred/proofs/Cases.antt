@@ -8,19 +8,21 @@ use Rattle.btor2.specs.Value.{binary, evalOp, values, value}
 use Rattle.btor2_list.specs.Record.{recordAt}
 use Rattle.btor2_list.specs.Node.{opOf}
 use Rattle.btor2_list.specs.View.{view}
-use Rattle.program.specs.Prog.{_>>=_}
+use Rattle.builder.specs.Prog.{_>>=_}
 use Rattle.builder.specs.Append.{appendLine}
 use Rattle.builder_ops.specs.Composed.{newNeq, newUgte, newSra, newShiftRight, checkAdditionOverflow}
 use Rattle.models.specs.Counters.{modelAddress, wordAddress, bitOffset, modelL, modelLoad}
 use Rattle.models.specs.Kinds.{constant, link, withConstant, addiResult, sumWithConstant, modelAddi, shiftedBack, divided, modelBranch}
-use Rattle.models.specs.Model.{upper, constantOf, regFlowIte, unimplemented, translate}
+use Rattle.models.specs.Model.{regFlowIte, unimplemented, translate}
+use Rattle.riscv.specs.Constant.{upper, constantOf}
 use Rattle.riscv.specs.Refusal.{refusal}
-use Rattle.roles.specs.Roles.{operandsFor, flowsIn, withFlows}
-use Rattle.roles_check.specs.RolesFit.{rolesFit}
+use Rattle.state.specs.Roles.{operandsFor, flowsIn, withFlows}
+use Rattle.state.specs.RolesFit.{rolesFit}
 use Rattle.text.specs.Numeral.{numeral}
 use Rattle.text.specs.BadName.{badName}
-use Rattle.lowering_refusals.specs.Refusal.{roomOf, needsOf, roomOut, flagOut, refusalGiven}
-use Rattle.lowering_lines.specs.Lines.{programWith}
+use Rattle.lowering_refusals.specs.Refusal.{needsOf, roomOut, flagOut, refusalGiven}
+use Rattle.state.specs.Room.{roomOf}
+use Rattle.lowering.specs.Lines.{programWith}
 use Rattle.lowering.specs.Lowering.{programOf, countsAfter, settled, loweringGiven}
 use Rattle.listing_start.specs.Start.{startNames, concat, startName, namedStates, startOps, records, startWords, startIn, fromOn, startRoles, startState}
 use Rattle.listing_bytes.specs.Storage.{startLent}

@@ -12,14 +12,14 @@ use Rattle.btor2_list.specs.Record.{capacity}
 use Rattle.btor2_list.specs.View.{view}
 use Rattle.list_check.specs.Lines.{ops}
 use Rattle.list_check.specs.Formed.{unformed}
-use Rattle.lowering_refusals.specs.declared.Room.{Room}
-use Rattle.lowering_refusals.specs.declared.State.{State}
-use Rattle.lowering_refusals.specs.Refusal.{countsOut}
-use Rattle.lowering_refusals.proofs.Within.{within}
+use Rattle.state.specs.declared.room.Room.{Room}
+use Rattle.state.specs.declared.State.{State}
+use Rattle.state.specs.Room.{countsOut}
+use Rattle.state.proofs.Within.{within}
 use Rattle.nid_check.specs.Identifiers.{taken, nidsOut}
 use Rattle.riscv.specs.Refusal.{first}
 use Rattle.riscv.proofs.First.{Tests}
-use Rattle.roles_check.specs.RolesFit.{rolesFit}
+use Rattle.state.specs.RolesFit.{rolesFit}
 use Rattle.start.specs.Start.{listRefusal, startRefusal}
 
 -- the tests after 10 to 12 decide where none of these applies

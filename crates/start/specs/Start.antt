@@ -11,12 +11,12 @@ use Rattle.btor2_list.specs.Record.{capacity}
 use Rattle.btor2_list.specs.View.{view}
 use Rattle.list_check.specs.Lines.{ops}
 use Rattle.list_check.specs.Formed.{unformed}
-use Rattle.lowering_refusals.specs.declared.Room.{Room}
-use Rattle.lowering_refusals.specs.declared.State.{State}
-use Rattle.lowering_refusals.specs.Refusal.{countsOut}
+use Rattle.state.specs.declared.room.Room.{Room}
+use Rattle.state.specs.declared.State.{State}
+use Rattle.state.specs.Room.{countsOut}
 use Rattle.nid_check.specs.Identifiers.{taken, nidsOut}
 use Rattle.riscv.specs.Refusal.{first}
-use Rattle.roles_check.specs.RolesFit.{rolesFit}
+use Rattle.state.specs.RolesFit.{rolesFit}
 
 -- the tests 10 to 12 of lines with this next identifier; the name areas are `host` and `ours` bytes long
 abbrev pub testsOfLines : List Node → ℕ → ℕ → ℕ → List (Bool × ℕ)

@@ -2,20 +2,20 @@
 use btor2_list::MOST_START_NID;
 use btor2_list::list_out;
 use list_check::unformed;
-use lowering_refusals::State;
-use lowering_refusals::counts_out;
-use lowering_refusals::room_of;
 use nid_check::nids_out;
-use roles_check::roles_out;
 use sort_check::sort_broken;
+use state::State;
+use state::counts_out;
+use state::roles_out;
+use state::room_of;
 ghost use mathlib.Core.Path.{_≡_};
 ghost use lib.ListN.{length};
-ghost use Rattle.lowering_refusals.specs.Refusal.{roomOf};
+ghost use Rattle.state.specs.Room.{roomOf};
 ghost use Rattle.start.specs.Start.{listRefusal, startRefusal};
 
 // The first of 9 to 12 that applies to a list of this many lines with this next identifier, or 0: each is looked for in the whole list before
 // the next. `host` and `ours` are the lengths of the two name areas. Nothing is written.
-pub fn check_list(list: &[u64], lines: usize, next: u64, host: usize, ours: usize) -> u64
+fn check_list(list: &[u64], lines: usize, next: u64, host: usize, ours: usize) -> u64
     ensures { λ r. ⌜ r ≡ listRefusal (now (list .entry)) lines next host ours ⌝ }
 {
     if list_out(list, lines) | (MOST_START_NID < next) {

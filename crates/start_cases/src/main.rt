@@ -6,16 +6,16 @@
 // What a command sets stays for those after it. tools/start_cases.py made the commands and what is to be written.
 use btor2::NodeRef;
 use builder::Tally;
-use case_record::read_record;
-use case_state::Step;
-use case_state::read_counts;
-use case_state::read_role;
-use decimal_text::read_decimal;
+use cases::Step;
+use cases::read_counts;
+use cases::read_decimal;
+use cases::read_record;
+use cases::read_role;
 use libc::STDIN_FILENO;
 use libc::STDOUT_FILENO;
-use lowering_refusals::Counts;
-use lowering_refusals::State;
-use roles::ROLES;
+use state::Counts;
+use state::ROLES;
+use state::State;
 
 fn main() {
     let mut buffer = [0u8; 262144];

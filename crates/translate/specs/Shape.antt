@@ -3,9 +3,9 @@ use Prim.Native.Nat.{ℕ}
 use mathlib.Core.Path.{_≡_}
 use Rattle.riscv.specs.declared.Zeros.{Zeros}
 use Rattle.riscv.specs.Kind.{Kind}
-use Rattle.program.specs.Prog.{Prog}
-use Rattle.builder_bin.specs.Operator.{binOf}
-use Rattle.builder_operator.specs.Operator.{operatorOf}
+use Rattle.builder.specs.Prog.{Prog}
+use Rattle.btor2_list.specs.Operator.{binFrom}
+use Rattle.builder_ops.specs.Operator.{operatorOf}
 use Rattle.models.specs.Places.{Operands, Flows, Modeled}
 use Rattle.models.specs.Counters.{modelLoad, modelStore, modelLd, modelSd}
 use Rattle.models.specs.Kinds.{constant, link, withConstant, modelAddi, modelAddiw, modelSltiu, modelSlliw, shiftedBack, withRegister, modelSltu, shifted, modelSllw, summed, summedWord, modelMul, modelMulw, divided, modelDivw, modelRemu, modelBranch, modelEcall}
@@ -26,15 +26,15 @@ shaped Sltiu e f imm z = modelSltiu e f imm
 shaped Slliw e f imm z = modelSlliw e f imm
 shaped (WithConstant o) e f imm z = withConstant (operatorOf o) e f imm
 shaped (ShiftedBack o) e f imm z = shiftedBack (operatorOf o) e f imm
-shaped (Summed o) e f imm z = summed (binOf o) e f
-shaped (SummedWord o) e f imm z = summedWord (binOf o) e f
+shaped (Summed o) e f imm z = summed (binFrom o) e f
+shaped (SummedWord o) e f imm z = summedWord (binFrom o) e f
 shaped (Shifted o) e f imm z = shifted (operatorOf o) e f
 shaped Sltu e f imm z = modelSltu e f
 shaped Sllw e f imm z = modelSllw e f
 shaped (WithRegister o) e f imm z = withRegister (operatorOf o) e f
 shaped Mul e f imm z = modelMul e f
 shaped Mulw e f imm z = modelMulw e f
-shaped (Divided o) e f imm z = divided (binOf o) e f
+shaped (Divided o) e f imm z = divided (binFrom o) e f
 shaped Divw e f imm z = modelDivw e f
 shaped Remu e f imm z = modelRemu e f
 shaped (Branch o) e f imm z = modelBranch (operatorOf o) e f

@@ -3,11 +3,11 @@
 use btor2::Name;
 use btor2::NodeRef;
 use btor2::NodeType;
+use btor2_list::Bin;
 use builder::Tally;
-use builder_bin::Bin;
-use builder_lines::new_bad;
-use builder_lines::new_ite;
-use builder_operator::Operator;
+use builder::new_bad;
+use builder::new_ite;
+use builder_ops::Operator;
 use models::Flows;
 use models::Modeled;
 use models::Operands;
@@ -173,33 +173,33 @@ fn model_shape(
     ensures { λ r. ⌜ Gives (now (list .entry)) t (shaped shape (operandsOf e) (flowsOf f) imm z) (now (list .exit)) (r .tally) (modeledOf r) ⌝ }
 {
     match shape {
-        Shape::Constant => models_constant::constant(list, t, f, imm),
-        Shape::Link => models_constant::link(list, t, f, imm, z.rd),
+        Shape::Constant => models_immediate::constant(list, t, f, imm),
+        Shape::Link => models_immediate::link(list, t, f, imm, z.rd),
         Shape::Load(spare, signed) => {
-            models_load::load(list, t, e, f, z.imm, imm, spare, signed)
+            models_memory::load(list, t, e, f, z.imm, imm, spare, signed)
         }
-        Shape::Ld => models_load::model_ld(list, t, e, f, z.imm, imm),
-        Shape::Store(ones) => models_store::store(list, t, e, f, z.imm, imm, ones),
-        Shape::Sd => models_store::model_sd(list, t, e, f, z.imm, imm),
-        Shape::Addi => models_addition::model_addi(list, t, e, f, imm, z),
-        Shape::Addiw => models_addition::model_addiw(list, t, e, f, imm),
+        Shape::Ld => models_memory::model_ld(list, t, e, f, z.imm, imm),
+        Shape::Store(ones) => models_memory::store(list, t, e, f, z.imm, imm, ones),
+        Shape::Sd => models_memory::model_sd(list, t, e, f, z.imm, imm),
+        Shape::Addi => models_immediate::model_addi(list, t, e, f, imm, z),
+        Shape::Addiw => models_immediate::model_addiw(list, t, e, f, imm),
         Shape::Sltiu => models_immediate::model_sltiu(list, t, e, f, imm),
-        Shape::Slliw => models_shift32::model_slliw(list, t, e, f, imm),
+        Shape::Slliw => models_immediate::model_slliw(list, t, e, f, imm),
         Shape::WithConstant(o) => models_immediate::with_constant(list, t, o, e, f, imm),
-        Shape::ShiftedBack(o) => models_shift32::shifted_back(list, t, o, e, f, imm),
-        Shape::Summed(o) => models_word::summed(list, t, o, e, f),
-        Shape::SummedWord(o) => models_word::summed_word(list, t, o, e, f),
+        Shape::ShiftedBack(o) => models_immediate::shifted_back(list, t, o, e, f, imm),
+        Shape::Summed(o) => models_register::summed(list, t, o, e, f),
+        Shape::SummedWord(o) => models_register::summed_word(list, t, o, e, f),
         Shape::Shifted(o) => models_register::shifted(list, t, o, e, f),
         Shape::Sltu => models_register::model_sltu(list, t, e, f),
-        Shape::Sllw => models_word::model_sllw(list, t, e, f),
+        Shape::Sllw => models_register::model_sllw(list, t, e, f),
         Shape::WithRegister(o) => models_register::with_register(list, t, o, e, f),
-        Shape::Mul => models_product::model_mul(list, t, e, f),
-        Shape::Mulw => models_product::model_mulw(list, t, e, f),
-        Shape::Divided(o) => models_division::divided(list, t, o, e, f),
-        Shape::Divw => models_division::model_divw(list, t, e, f),
-        Shape::Remu => models_division::model_remu(list, t, e, f),
-        Shape::Branch(o) => models_control::model_branch(list, t, o, e, f),
-        Shape::Ecall => models_control::model_ecall(list, t, e, f),
+        Shape::Mul => models_register::model_mul(list, t, e, f),
+        Shape::Mulw => models_register::model_mulw(list, t, e, f),
+        Shape::Divided(o) => models_register::divided(list, t, o, e, f),
+        Shape::Divw => models_register::model_divw(list, t, e, f),
+        Shape::Remu => models_register::model_remu(list, t, e, f),
+        Shape::Branch(o) => models_register::model_branch(list, t, o, e, f),
+        Shape::Ecall => models_register::model_ecall(list, t, e, f),
     }
 }
 

@@ -49,9 +49,9 @@ use Rattle.btor2.proofs.NodeRef.Laws as Nd′
 use Rattle.riscv.specs.declared.Instruction.{Instruction}
 use Rattle.riscv.proofs.Instruction as In
 use Rattle.riscv.proofs.Instruction.Laws as In′
-use Rattle.lowering_refusals.specs.declared.State.{State}
-use Rattle.lowering_refusals.proofs.State as St
-use Rattle.lowering_refusals.proofs.State.Laws as St′
+use Rattle.state.specs.declared.State.{State}
+use Rattle.state.proofs.State as St
+use Rattle.state.proofs.State.Laws as St′
 use Rattle.lowering.specs.declared.Lowered.{Lowered}
 use Rattle.lowering.proofs.Lowered as Lw
 use Rattle.lowering.proofs.Lowered.Laws as Lw′
@@ -146,8 +146,8 @@ module _ {M : Type 1} (𝓤 : URA M) (H : Heap 𝓤) (A : Atoms 𝓤) (mem : Mem
 
 module _ {M : Type 1} (𝓤 : URA M) (H : Heap 𝓤) (A : Atoms 𝓤) (W : Given 𝓤 H A) (mem : Memory → SProp 𝓤) (run : Routine → Fun 𝓤) (κ₀ κ₁ κ₂ κ₃ : Lft) (q₀ q₁ q₂ q₃ : Share)
     (b₀ o₀ : ℕ) (γ₀ : GName) (ws : List ℕ) (b₁ o₁ : ℕ) (γ₁ : GName) (ns : List ℕ) (es : List InEdge) (n : ℕ) (b₂ o₂ : ℕ) (γ₂ : GName) (ds : List ℕ) (b₃ o₃ : ℕ) (γ₃ : GName) (bs : List ℕ)
-    (st : State) (i : Instruction) (pc : ℕ) (flag : NodeRef)
-    (room₀ : Room u64 (length ws)) (room₁ : Room u8 (length ns)) (es-is : Is Rs es (rs-vals es)) (n-fits : n < 2 ^ 64) (room₂ : Room u64 (length ds)) (room₃ : Room u64 (length bs)) (st-is : Is St-row st (st-vals st)) (i-is : Is In-row i (in-vals i)) (pc-fits : pc < 2 ^ 64) (flag-is : Is Nd-row flag (nd-vals flag)) (within : n ≤ 5) where
+    (st : State) (i : Instruction) (address : ℕ) (flag : NodeRef)
+    (room₀ : Room u64 (length ws)) (room₁ : Room u8 (length ns)) (es-is : Is Rs es (rs-vals es)) (n-fits : n < 2 ^ 64) (room₂ : Room u64 (length ds)) (room₃ : Room u64 (length bs)) (st-is : Is St-row st (st-vals st)) (i-is : Is In-row i (in-vals i)) (pc-fits : address < 2 ^ 64) (flag-is : Is Nd-row flag (nd-vals flag)) (within : n ≤ 5) where
   abbrev x₀ : RefT (List ℕ)
   x₀ = record { ptr = (b₀, o₀); name = γ₀; now = ws }
 
@@ -189,10 +189,10 @@ module _ {M : Type 1} (𝓤 : URA M) (H : Heap 𝓤) (A : Atoms 𝓤) (W : Given
   Arg = RefT (List ℕ) × (RefT (List ℕ) × (List InEdge × (ℕ × (RefT (List ℕ) × (RefT (List ℕ) × (State × (Instruction × (ℕ × (NodeRef × Unit {0})))))))))
 
   abbrev a : Arg
-  a = (x₀, (x₁, (es, (n, (x₂, (x₃, (st, (i, (pc, (flag, tt))))))))))
+  a = (x₀, (x₁, (es, (n, (x₂, (x₃, (st, (i, (address, (flag, tt))))))))))
 
   abbrev vals : List Val × (List Val × (List Val × (List Val × (List Val × (List Val × (List Val × (List Val × (List Val × (List Val × Unit {0})))))))))
-  vals = (s₀ ∷ [], (s₁ ∷ [], (rs-vals es, (vint w64 n ∷ [], (s₂ ∷ [], (s₃ ∷ [], (st-vals st, (in-vals i, (vint w64 pc ∷ [], (nd-vals flag, tt))))))))))
+  vals = (s₀ ∷ [], (s₁ ∷ [], (rs-vals es, (vint w64 n ∷ [], (s₂ ∷ [], (s₃ ∷ [], (st-vals st, (in-vals i, (vint w64 address ∷ [], (nd-vals flag, tt))))))))))
 
   abbrev Post : Val → SProp 𝓤
   Post = walkOf 𝓤 H A f.ended stayed (f.clauses 𝓤 H A mem run) .post (((κ₀, (κ₁, (κ₂, (κ₃, tt)))), (q₀, (q₁, (q₂, (q₃, tt)))), tt, a, vals), tt)
@@ -206,13 +206,13 @@ module _ {M : Type 1} (𝓤 : URA M) (H : Heap 𝓤) (A : Atoms 𝓤) (W : Given
     se = sliceVal (b, 0) n
 
     abbrev core-args : RefT (List ℕ) × (RefT (List ℕ) × (RefT (List InEdge) × (RefT (List ℕ) × (RefT (List ℕ) × (State × (Instruction × (ℕ × (NodeRef × Unit {0}))))))))
-    core-args = (x₀, (x₁, (xe, (x₂, (x₃, (st, (i, (pc, (flag, tt)))))))))
+    core-args = (x₀, (x₁, (xe, (x₂, (x₃, (st, (i, (address, (flag, tt)))))))))
 
     abbrev core-lfts : Lft × (Lft × (Lft × (Lft × (Lft × Unit {0}))))
     core-lfts = (κ₀, (κ₁, (ν ∷ [], (κ₂, (κ₃, tt)))))
 
     abbrev to-core : CoreC 𝓤 H A mem run .Ghost
-    to-core = ((core-lfts, (q₀, (q₁, (fullShare, (q₂, (q₃, tt))))), tt, core-args, (s₀ ∷ [], (s₁ ∷ [], (se ∷ [], (s₂ ∷ [], (s₃ ∷ [], (st-vals st, (in-vals i, (vint w64 pc ∷ [], (nd-vals flag, tt)))))))))), tt)
+    to-core = ((core-lfts, (q₀, (q₁, (fullShare, (q₂, (q₃, tt))))), tt, core-args, (s₀ ∷ [], (s₁ ∷ [], (se ∷ [], (s₂ ∷ [], (s₃ ∷ [], (st-vals st, (in-vals i, (vint w64 address ∷ [], (nd-vals flag, tt)))))))))), tt)
 
     abbrev ForCore : List (Item 𝓤)
     ForCore = ‵ (flft κ₀ q₀) ∷ ‵ (flft κ₁ q₁) ∷ ‵ (flft (ν ∷ []) fullShare) ∷ ‵ (flft κ₂ q₂) ∷ ‵ (flft κ₃ q₃) ∷ ‵ (MutSlice (named 0) κ₀ u64 .own x₀ (s₀ ∷ [])) ∷ ‵ (MutSlice (named 1) κ₁ u8 .own x₁ (s₁ ∷ [])) ∷ ‵ (MutSlice (named 2) (ν ∷ []) R .own xe (se ∷ [])) ∷ ‵ (MutSlice (named 3) κ₂ u64 .own x₂ (s₂ ∷ [])) ∷ ‵ (MutSlice (named 4) κ₃ u64 .own x₃ (s₃ ∷ [])) ∷ []
@@ -221,7 +221,7 @@ module _ {M : Type 1} (𝓤 : URA M) (H : Heap 𝓤) (A : Atoms 𝓤) (W : Given
     goes-core =
         qed W ForCore ∵
         nothing ! $ move ! (1 ∷ 2 ∷ 3 ∷ 4 ∷ 5 ∷ 0 ∷ []) $ group ! 6 $
-        nothing ! $ owned ! Nd-row (Is Nd-row) (LL.makes Nd.the-type Nd′.the-plain 𝓤 H A) flag _ flag-is $ fjoin ! $ owned ! u64 (Is u64) (uint-makes 𝓤 H A W w64) pc _ (refl, pc-fits) $ fjoin ! $ owned ! In-row (Is In-row) (LL.makes In.the-type In′.the-plain 𝓤 H A) i _ i-is $ fjoin ! $ owned ! St-row (Is St-row) (LL.makes St.the-type St′.the-plain 𝓤 H A) st _ st-is $ fjoin ! $
+        nothing ! $ owned ! Nd-row (Is Nd-row) (LL.makes Nd.the-type Nd′.the-plain 𝓤 H A) flag _ flag-is $ fjoin ! $ owned ! u64 (Is u64) (uint-makes 𝓤 H A W w64) address _ (refl, pc-fits) $ fjoin ! $ owned ! In-row (Is In-row) (LL.makes In.the-type In′.the-plain 𝓤 H A) i _ i-is $ fjoin ! $ owned ! St-row (Is St-row) (LL.makes St.the-type St′.the-plain 𝓤 H A) st _ st-is $ fjoin ! $
         move ! (6 ∷ 0 ∷ []) $ fjoin ! $ move ! (5 ∷ 0 ∷ []) $ fjoin ! $ move ! (4 ∷ 0 ∷ []) $ fjoin ! $ move ! (3 ∷ 0 ∷ []) $ fjoin ! $ move ! (2 ∷ 0 ∷ []) $ fjoin ! $ move ! (1 ∷ 0 ∷ []) $ join ! $ frame ! $ done !
 
     -- what it ensures, at the last lists: nothing here goes by what that is
@@ -247,7 +247,7 @@ module _ {M : Type 1} (𝓤 : URA M) (H : Heap 𝓤) (A : Atoms 𝓤) (W : Given
       suffices ! P (via 𝓤 (sep 𝓤 (emp 𝓤) P) (emp∗ 𝓤 P) (via 𝓤 (sep 𝓤 P (emp 𝓤)) (comm∗ 𝓤 (emp 𝓤) P)
       (ends-at 𝓤 H A f.ended stayed (f.clauses 𝓤 H A mem run) W (((κ₀, (κ₁, (κ₂, (κ₃, tt)))), (q₀, (q₁, (q₂, (q₃, tt)))), tt, a, vals), tt) (rc-val (rec r fs)) (rec r fs) (vs₀, (vs₁, (tt, (tt, (vs₂, (vs₃, (tt, (tt, (tt, (tt, tt)))))))))) (same₀, (same₁, (tt, (tt, (same₂, (same₃, (tt, (tt, (tt, (tt, tt))))))))))))) $
       nothing ! $ move ! (1 ∷ 2 ∷ 3 ∷ 4 ∷ 0 ∷ []) $ group ! 5 $ frame ! $
-      nothing ! $ owned ! Nd-row (Is Nd-row) (LL.makes Nd.the-type Nd′.the-plain 𝓤 H A) flag _ flag-is $ fjoin ! $ owned ! u64 (Is u64) (uint-makes 𝓤 H A W w64) pc _ (refl, pc-fits) $ fjoin ! $ owned ! In-row (Is In-row) (LL.makes In.the-type In′.the-plain 𝓤 H A) i _ i-is $ fjoin ! $ owned ! St-row (Is St-row) (LL.makes St.the-type St′.the-plain 𝓤 H A) st _ st-is $ fjoin ! $
+      nothing ! $ owned ! Nd-row (Is Nd-row) (LL.makes Nd.the-type Nd′.the-plain 𝓤 H A) flag _ flag-is $ fjoin ! $ owned ! u64 (Is u64) (uint-makes 𝓤 H A W w64) address _ (refl, pc-fits) $ fjoin ! $ owned ! In-row (Is In-row) (LL.makes In.the-type In′.the-plain 𝓤 H A) i _ i-is $ fjoin ! $ owned ! St-row (Is St-row) (LL.makes St.the-type St′.the-plain 𝓤 H A) st _ st-is $ fjoin ! $
       move ! (4 ∷ 0 ∷ []) $ fjoin ! $ move ! (3 ∷ 0 ∷ []) $ fjoin ! $ owned ! usize (Is usize) (uint-makes 𝓤 H A W w64) n _ (refl, n-fits) $ fjoin ! $ owned ! Rs (Is Rs) (array-makes 𝓤 H A W R (LL.makes T.the-type T′.the-plain 𝓤 H A) 5) es _ es-is $ fjoin ! $ move ! (2 ∷ 0 ∷ []) $ fjoin ! $ move ! (1 ∷ 0 ∷ []) $ fjoin ! $ frame ! $
       owned ! Rc-row (Is Rc-row) (LL.makes Rc.the-type Rc′.the-plain 𝓤 H A) (rec r fs) _ is $ done !
 
@@ -265,9 +265,9 @@ module _ {M : Type 1} (𝓤 : URA M) (H : Heap 𝓤) (A : Atoms 𝓤) (W : Given
   rs-typed = array-lawful 𝓤 H A W R (LL.lawful T.the-type T′.the-laws 𝓤 H A W) 5 .typed
 
   module _ (C : Calls 𝓤 H) (Λ : Loops 𝓤 H) (fm : FmC 𝓤 H (W .laws) C) (known : Triple 𝓤 (C #core) (CoreC 𝓤 H A mem run)) where
-    walk : ent 𝓤 (onEntry 𝓤 H A f.signature (κ₀, (κ₁, (κ₂, (κ₃, tt)))) (q₀, (q₁, (q₂, (q₃, tt)))) a vals) (WpFn 𝓤 H C Λ code.function (s₀ ∷ s₁ ∷ es-val ∷ vint w64 n ∷ s₂ ∷ s₃ ∷ st-val st ∷ In′.lowered i ∷ vint w64 pc ∷ Nd′.lowered flag ∷ []) Post)
+    walk : ent 𝓤 (onEntry 𝓤 H A f.signature (κ₀, (κ₁, (κ₂, (κ₃, tt)))) (q₀, (q₁, (q₂, (q₃, tt)))) a vals) (WpFn 𝓤 H C Λ code.function (s₀ ∷ s₁ ∷ es-val ∷ vint w64 n ∷ s₂ ∷ s₃ ∷ st-val st ∷ In′.lowered i ∷ vint w64 address ∷ Nd′.lowered flag ∷ []) Post)
     walk =
-        qed W ((‵ (flft κ₀ q₀) ⊛ ‵ (flft κ₁ q₁) ⊛ ‵ (flft κ₂ q₂) ⊛ ‵ (flft κ₃ q₃) ⊛ ‵ ftrue) ∷ ‵ (owns (MutSlice (named 0) κ₀ u64 ∷ MutSlice (named 1) κ₁ u8 ∷ Rs ∷ usize ∷ MutSlice (named 2) κ₂ u64 ∷ MutSlice (named 3) κ₃ u64 ∷ St-row ∷ In-row ∷ u64 ∷ Nd-row ∷ []) a vals) ∷ []) ∵ enter ! C Λ code.function (s₀ ∷ s₁ ∷ es-val ∷ vint w64 n ∷ s₂ ∷ s₃ ∷ st-val st ∷ In′.lowered i ∷ vint w64 pc ∷ Nd′.lowered flag ∷ []) _ $
+        qed W ((‵ (flft κ₀ q₀) ⊛ ‵ (flft κ₁ q₁) ⊛ ‵ (flft κ₂ q₂) ⊛ ‵ (flft κ₃ q₃) ⊛ ‵ ftrue) ∷ ‵ (owns (MutSlice (named 0) κ₀ u64 ∷ MutSlice (named 1) κ₁ u8 ∷ Rs ∷ usize ∷ MutSlice (named 2) κ₂ u64 ∷ MutSlice (named 3) κ₃ u64 ∷ St-row ∷ In-row ∷ u64 ∷ Nd-row ∷ []) a vals) ∷ []) ∵ enter ! C Λ code.function (s₀ ∷ s₁ ∷ es-val ∷ vint w64 n ∷ s₂ ∷ s₃ ∷ st-val st ∷ In′.lowered i ∷ vint w64 address ∷ Nd′.lowered flag ∷ []) _ $
         alloc1 ! (λ l₀. alloc1 ! (λ l₁. alloc1 ! (λ l₂. alloc1 ! (λ l₃. alloc1 ! (λ l₄. alloc1 ! (λ l₅. alloc1 ! (λ l₆. alloc1 ! (λ l₇. alloc1 ! (λ l₈. alloc1 ! (λ l₉. alloc1 ! (λ l₁₀. alloc1 ! (λ l₁₁. alloc1 ! (λ l₁₂. alloc1 ! (λ l₁₃. alloc1 ! (λ l₁₄. alloc1 ! (λ l₁₅. alloc1 ! (λ l₁₆. alloc1 ! (λ l₁₇. alloc1 ! (λ l₁₈. alloc1 ! (λ l₁₉. alloc1 ! (λ l₂₀. alloc1 ! (λ l₂₁. alloc1 ! (λ l₂₂. alloc1 ! (λ l₂₃. alloc0 ! $ params1 ! $
         pass1 ! (init ! 44 refl (tt, (tt, (record { fits = room₀ .0 }, tt)))) $ pass1 ! (init ! 42 refl (tt, (tt, (record { fits = room₁ .0 }, tt)))) $ pass1 ! (init ! 40 refl (rs-typed es _ es-is .0)) $ pass1 ! (init ! 38 refl (tt, record { fits = n-fits })) $ pass1 ! (init ! 36 refl (tt, (tt, (record { fits = room₂ .0 }, tt)))) $ pass1 ! (init ! 34 refl (tt, (tt, (record { fits = room₃ .0 }, tt)))) $
         pass1 ! (init ! 32 refl (LL.lawful St.the-type St′.the-laws 𝓤 H A W .typed st (st-vals st) st-is .0)) $ pass1 ! (init ! 30 refl (LL.lawful In.the-type In′.the-laws 𝓤 H A W .typed i (in-vals i) i-is .0)) $ pass1 ! (init ! 28 refl (tt, record { fits = pc-fits })) $ pass1 ! (init ! 26 refl (LL.lawful Nd.the-type Nd′.the-laws 𝓤 H A W .typed flag (nd-vals flag) flag-is .0)) $ pass0 ! $

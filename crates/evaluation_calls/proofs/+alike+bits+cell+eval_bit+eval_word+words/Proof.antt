@@ -8,8 +8,8 @@ use native.Mathlib.Omega.{arith}
 use borrow.Author.Needs.{needs}
 use Rattle.btor2.specs.declared.NodeType.the-variants.{Bit, Word, Memory}
 use Rattle.btor2.specs.SortRule.{hasSort}
-use Rattle.line_operator.specs.declared.Operator.{Operator}
-use Rattle.line_operator.specs.Operator.{opFrom}
+use Rattle.btor2_list.specs.declared.operator.LineOperator.{LineOperator}
+use Rattle.btor2_list.specs.Operator.{opFrom}
 use Rattle.evaluation_calls.specs.Inside.{numFrom, wordSort}
 use Rattle.evaluation_calls.proofs.Steps.{refused, valued, choice-refused, chosen, passed, cover-refused, covered, uncovered, pair-refused, pair-values, first-refused, second-refused, two-values, Entered, num-refused, cell-refused, counted, enter, from-word, calls-bits, calls-words, sort-ite, sort-and, sort-or, sort-not, call, calls, call-alike, of-const, of-read, of-bin, of-eq, of-and, of-or, of-ite, of-not, of-ext, is-state, is-init, is-input, of-given, cell-write, cell-ite, cell-given, turned-word, turned-bit, no-word, no-bit, no-cell}
 use borrow.Fn.Kinds.{In}
@@ -33,14 +33,14 @@ use Rattle.evaluation_calls.proofs.words.Reads as words
 use Rattle.evaluation_calls.proofs.words.Kinds as words-kinds
 use Rattle.evaluation_calls.proofs.+alike+bits+cell+eval_bit+eval_word+words.Lts-words as words-lts
 use Rattle.evaluation_calls.proofs.visit.Reads as visit-reads
-use Rattle.given_values.proofs.given.Reads as given-reads
-use Rattle.given_values.proofs.given_cell.Reads as given-cell-reads
-use Rattle.operator_value.proofs.binary.Reads as binary-reads
-use Rattle.operator_value.proofs.bit_not.Reads as bit-not-reads
-use Rattle.operator_value.proofs.conjunction.Reads as conjunction-reads
-use Rattle.operator_value.proofs.disjunction.Reads as disjunction-reads
-use Rattle.operator_value.proofs.equal.Reads as equal-reads
-use Rattle.operator_value.proofs.word_not.Reads as word-not-reads
+use Rattle.evaluation.proofs.given.Reads as given-reads
+use Rattle.evaluation.proofs.given_cell.Reads as given-cell-reads
+use Rattle.evaluation_calls.proofs.operators.binary.Reads as binary-reads
+use Rattle.evaluation_calls.proofs.operators.bit_not.Reads as bit-not-reads
+use Rattle.evaluation_calls.proofs.operators.conjunction.Reads as conjunction-reads
+use Rattle.evaluation_calls.proofs.operators.disjunction.Reads as disjunction-reads
+use Rattle.evaluation_calls.proofs.operators.equal.Reads as equal-reads
+use Rattle.evaluation_calls.proofs.operators.word_not.Reads as word-not-reads
 use Rattle.sort_check.proofs.is_of.Reads as is-of-reads
 use Rattle.sort_check.proofs.same.Reads as same-reads
 use Rattle.evaluation_calls.proofs.+alike+bits+cell+eval_bit+eval_word+words.{statement}
@@ -108,7 +108,7 @@ first-falls a b e = omega arith
 second-falls : {t : ℕ} (a b : ℕ) → 3 * max a b + 3 ≡ t → 3 * b + 2 < t
 second-falls a b e = omega arith
 
-entered-cell : (t : ℕ) (c : cell-lts.Else1 (visit-reads.Asked, visit-reads.Learnt, eval-word-below t, eval-word.Post, cell-below t, cell.Post, eval-bit-below t, eval-bit.Post, given-cell-reads.Asked, given-cell-reads.Learnt) (cell-at t) cell.Post) {o : Operator} → c .before .before .visit .result .line ≡ o
+entered-cell : (t : ℕ) (c : cell-lts.Else1 (visit-reads.Asked, visit-reads.Learnt, eval-word-below t, eval-word.Post, cell-below t, cell.Post, eval-bit-below t, eval-bit.Post, given-cell-reads.Asked, given-cell-reads.Learnt) (cell-at t) cell.Post) {o : LineOperator} → c .before .before .visit .result .line ≡ o
     → let a = c .before .before .before .before .before .before .args in Entered (now (a .list)) (now (a .values)) (now (a .memory)) (a .place .0) (a .visits) (opFrom o)
 entered-cell t c q =
     let v = c .before .before in
@@ -116,7 +116,7 @@ entered-cell t c q =
     let a = s .args in
     enter (now (a .list)) (now (a .values)) (now (a .memory)) (a .place .0) (a .visits) (s .pre .1 .held) (v .visit .result .refusal) (v .visit .ensures .0) (v .visit .result .line) (v .visit .ensures .1) (c .if1 .left) q
 
-entered-bit : (t : ℕ) (c : eval-bit-lts.Else1 (visit-reads.Asked, visit-reads.Learnt, words-below t, words.Post, binary-reads.Asked, binary-reads.Learnt, eval-bit-below t, eval-bit.Post, alike-below t, alike.Post, equal-reads.Asked, equal-reads.Learnt, bits-below t, bits.Post, conjunction-reads.Asked, conjunction-reads.Learnt, disjunction-reads.Asked, disjunction-reads.Learnt, bit-not-reads.Asked, bit-not-reads.Learnt, given-reads.Asked, given-reads.Learnt) (eval-bit-at t) eval-bit.Post) {o : Operator} → c .before .before .visit .result .line ≡ o
+entered-bit : (t : ℕ) (c : eval-bit-lts.Else1 (visit-reads.Asked, visit-reads.Learnt, words-below t, words.Post, binary-reads.Asked, binary-reads.Learnt, eval-bit-below t, eval-bit.Post, alike-below t, alike.Post, equal-reads.Asked, equal-reads.Learnt, bits-below t, bits.Post, conjunction-reads.Asked, conjunction-reads.Learnt, disjunction-reads.Asked, disjunction-reads.Learnt, bit-not-reads.Asked, bit-not-reads.Learnt, given-reads.Asked, given-reads.Learnt) (eval-bit-at t) eval-bit.Post) {o : LineOperator} → c .before .before .visit .result .line ≡ o
     → let a = c .before .before .before .before .before .before .args in Entered (now (a .list)) (now (a .values)) (now (a .memory)) (a .place .0) (a .visits) (opFrom o)
 entered-bit t c q =
     let v = c .before .before in
@@ -124,7 +124,7 @@ entered-bit t c q =
     let a = s .args in
     enter (now (a .list)) (now (a .values)) (now (a .memory)) (a .place .0) (a .visits) (s .pre .1 .held) (v .visit .result .refusal) (v .visit .ensures .0) (v .visit .result .line) (v .visit .ensures .1) (c .if1 .left) q
 
-entered-word : (t : ℕ) (c : eval-word-lts.Else1 (visit-reads.Asked, visit-reads.Learnt, eval-word-below t, eval-word.Post, cell-below t, cell.Post, words-below t, words.Post, binary-reads.Asked, binary-reads.Learnt, same-reads.Asked, same-reads.Learnt, eval-bit-below t, eval-bit.Post, conjunction-reads.Asked, conjunction-reads.Learnt, disjunction-reads.Asked, disjunction-reads.Learnt, word-not-reads.Asked, word-not-reads.Learnt, given-reads.Asked, given-reads.Learnt) (eval-word-at t) eval-word.Post) {o : Operator} → c .before .before .visit .result .line ≡ o
+entered-word : (t : ℕ) (c : eval-word-lts.Else1 (visit-reads.Asked, visit-reads.Learnt, eval-word-below t, eval-word.Post, cell-below t, cell.Post, words-below t, words.Post, binary-reads.Asked, binary-reads.Learnt, same-reads.Asked, same-reads.Learnt, eval-bit-below t, eval-bit.Post, conjunction-reads.Asked, conjunction-reads.Learnt, disjunction-reads.Asked, disjunction-reads.Learnt, word-not-reads.Asked, word-not-reads.Learnt, given-reads.Asked, given-reads.Learnt) (eval-word-at t) eval-word.Post) {o : LineOperator} → c .before .before .visit .result .line ≡ o
     → let a = c .before .before .before .before .before .before .args in Entered (now (a .list)) (now (a .values)) (now (a .memory)) (a .place .0) (a .visits) (opFrom o)
 entered-word t c q =
     let v = c .before .before in

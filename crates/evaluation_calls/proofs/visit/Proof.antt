@@ -9,8 +9,8 @@ use borrow.Author.Needs.{needs}
 use borrow.Author.Tests.{lt-ltb, le-ltb}
 use Rattle.btor2.specs.Op.{Op, mapOp}
 use Rattle.btor2.specs.SortRule.{rule}
-use Rattle.line_operator.specs.declared.Operator.{Operator}
-use Rattle.line_operator.specs.Operator.{opFrom}
+use Rattle.btor2_list.specs.declared.operator.LineOperator.{LineOperator}
+use Rattle.btor2_list.specs.Operator.{opFrom}
 use Rattle.sort_check.specs.Marks.{markAt}
 use Rattle.evaluation.specs.Evaluation.{mostVisits}
 use Rattle.evaluation_calls.specs.Inside.{saidAt}
@@ -18,7 +18,7 @@ use Rattle.evaluation_calls.proofs.visit.Statement.{statement}
 use Rattle.evaluation_calls.proofs.visit.Tie as tie
 
 -- the rule that is tested is that of the line
-ruled : (ws : List ℕ) (p : ℕ) (o : Operator) {m : Bool} → opFrom o ≡ saidAt ws p → m ≡ rule (mapOp (markAt ws p) (opFrom o)) → rule (mapOp (markAt ws p) (saidAt ws p)) ≡ m
+ruled : (ws : List ℕ) (p : ℕ) (o : LineOperator) {m : Bool} → opFrom o ≡ saidAt ws p → m ≡ rule (mapOp (markAt ws p) (opFrom o)) → rule (mapOp (markAt ws p) (saidAt ws p)) ≡ m
 ruled ws p o s e = ap (λ (x : Op ℕ). rule (mapOp (markAt ws p) x)) (sym s) ∙ sym e
 
 returns : tie.Need-returns

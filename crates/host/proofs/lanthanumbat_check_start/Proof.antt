@@ -3,7 +3,7 @@ use denote.Ref.{now}
 use lib.ListN.{length}
 use borrow.Author.Needs.{needs}
 use borrow.Author.Tests.{lt-ltb, le-ltb}
-use Rattle.state_words.specs.Words.{stateWords}
+use Rattle.state.specs.Words.{stateWords}
 use Rattle.host.specs.Host.{hostCheck}
 use Rattle.host.proofs.lanthanumbat_check_start.Statement.{statement}
 use Rattle.host.proofs.lanthanumbat_check_start.Tie as tie

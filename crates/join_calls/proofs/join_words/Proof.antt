@@ -5,7 +5,7 @@ use borrow.Author.Needs.{needs}
 use borrow.Author.Tests.{lt-ltb}
 use denote.Ref.{now}
 use Rattle.builder.proofs.Gives.{free}
-use Rattle.state_words.specs.Words.{stateWords}
+use Rattle.state.specs.Words.{stateWords}
 use Rattle.join.specs.Refusal.{joinLent, joinInput}
 use Rattle.join.specs.Words.{joiningWords}
 use Rattle.join_calls.proofs.Entry.{words-put}

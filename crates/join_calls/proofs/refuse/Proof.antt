@@ -10,7 +10,7 @@ use denote.Ref.{now}
 use lib.ListN.{length, replicate, length-replicate}
 use Rattle.builder.proofs.Gives.{free}
 use Rattle.join.specs.Refusal.{JoinLent, joinLent, JoinInput, joinInput, joinCountsOut, flagsOut, joinRoomOut, zeroIn}
-use Rattle.join.proofs.Numbers.{rolesOut, recordsOut, Within, within, is-9, is-13, is-15, is-16, is-8, is-0}
+use Rattle.join.proofs.Numbers.{rolesOut, recordsOut, JoinWithin, within, is-9, is-13, is-15, is-16, is-8, is-0}
 use Rattle.join_calls.proofs.Entry.{counts-by, zero-below}
 use Rattle.join_calls.proofs.Grown.{exceeds-room}
 use Rattle.join_calls.proofs.refuse.Statement.{statement}
@@ -85,7 +85,7 @@ zero-in c =
     zero-below (now (s .args .list)) (s .args .h .state .tally .lines) (s .args .h .state .roles) (omega (arith, c .zero-bit .ensures .1)) (not-false _ (sym (roles .before .roles-out .ensures) ∙ roles .if2 .left))
 
 -- what is in use is within its storage: of any areas of these lengths
-held : (c : tie.Else1) → let s = begun1 c in Within (lent-to (replicate (s .args .names) 0) (replicate (s .args .sequentials) 0) s) (s .args .h) (given-to s)
+held : (c : tie.Else1) → let s = begun1 c in JoinWithin (lent-to (replicate (s .args .names) 0) (replicate (s .args .sequentials) 0) s) (s .args .h) (given-to s)
 held c =
     let s = begun1 c in
     within (lent-to (replicate (s .args .names) 0) (replicate (s .args .sequentials) 0) s) (s .args .h) (given-to s)

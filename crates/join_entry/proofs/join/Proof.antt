@@ -61,7 +61,7 @@ use Rattle.join.proofs.Joined.Laws as Jd′
 use Rattle.edges.specs.declared.InEdge.{InEdge}
 use Rattle.edges.specs.InEdges.{edgeWords}
 use Rattle.edges.proofs.InEdge as T
-use Rattle.join_entry.specs.Parts.{putCount, Fits, joiningWithin}
+use Rattle.join_entry.specs.Parts.{putCount, EdgesFit, joiningWithin}
 use Rattle.join_entry.proofs.Same.{answered, fits}
 use Rattle.join_entry.proofs.put_count as count
 use Rattle.join_entry.proofs.put_count.Symbol as count-def
@@ -214,7 +214,7 @@ module _ {M : Type 1} (𝓤 : URA M) (H : Heap 𝓤) (A : Atoms 𝓤) (W : Given
     abbrev ForPut : List (Item 𝓤)
     ForPut = ‵ (flft κ₃ q₃) ∷ ‵ (flft (ν ∷ []) fullShare) ∷ ‵ (ShrSlice (named 3) κ₃ R .own x₃ (s₃ ∷ [])) ∷ ‵ (MutSlice (named 4) (ν ∷ []) u64 .own xp (s₄ ∷ [])) ∷ []
 
-    goes-put : Fits c es us → c < 2 ^ 64 → ent 𝓤 (⋆ 𝓤 H A ForPut) (PutC 𝓤 H A mem″ run .pre to-put)
+    goes-put : EdgesFit c es us → c < 2 ^ 64 → ent 𝓤 (⋆ 𝓤 H A ForPut) (PutC 𝓤 H A mem″ run .pre to-put)
     goes-put within c-fits =
         qed W ForPut ∵ says ! within $ nothing ! $ move ! (1 ∷ 2 ∷ 0 ∷ []) $ group ! 3 $ frame ! $
         nothing ! $ move ! (2 ∷ 0 ∷ []) $ fjoin ! $ owned ! usize (Is usize) (uint-makes 𝓤 H A W w64) c _ (refl, c-fits) $ fjoin ! $ move ! (1 ∷ 0 ∷ []) $ fjoin ! $ done !
@@ -285,7 +285,7 @@ module _ {M : Type 1} (𝓤 : URA M) (H : Heap 𝓤) (A : Atoms 𝓤) (W : Given
         -- the borrow of the words is opened, and they are lent to `put_words` for a lifetime ν
         move ! (12 ∷ []) $ fsplit ! $ drop ! $ fsplit ! $ move ! (0 ∷ 1 ∷ 6 ∷ []) $ opens-slice ! tt u64 us b₄ o₄ $ use1 W (‵ (cells (mem u64) us b₄ o₄)) (whole-in 𝓤 H A W u64 us b₄ o₄) $
         lft-new ! tt (λ ν. move ! (1 ∷ []) $ use1 W (later (some (λ (δ : GName). ‵ (MutSlice (named 4) (ν ∷ []) u64 .own (xp c ν δ) (s₄ ∷ [])) ⊛ ‵ (flent (ν ∷ []) (Borrowed u64 (length us) b₄ o₄ δ))))) (lends-slice 𝓤 H A W u64 (named 4) (ν ∷ []) us b₄ o₄ room₄) $ await ! tt $ pick ! (λ δ. split ! $
-        move ! (10 ∷ 2 ∷ 17 ∷ 0 ∷ []) $ group ! 4 $ use1 W (raw (PutC 𝓤 H A mem″ run .pre (to-put c ν δ))) (goes-put c ν δ (subst (λ (k : ℕ). Fits k es us) (sym c-is) (fits a es us)) (c-own .1)) $
+        move ! (10 ∷ 2 ∷ 17 ∷ 0 ∷ []) $ group ! 4 $ use1 W (raw (PutC 𝓤 H A mem″ run .pre (to-put c ν δ))) (goes-put c ν δ (subst (λ (k : ℕ). EdgesFit k es us) (sym c-is) (fits a es us)) (c-own .1)) $
         calls-at ! fm (PutC 𝓤 H A mem″ run) known-put (to-put c ν δ) (and-then ! (load ! (from ! (stop !)) (look ! 58 refl)) (and-then ! (load ! (from ! (stop !)) (look ! 44 refl)) (and-then ! (load ! (from ! (stop !)) (look ! 34 refl)) (no-more !)))) (λ w₂.
         use1 W (later (some (λ (u : Unit {0}). ((‵ (flft κ₃ q₃) ⊛ ‵ (flft (ν ∷ []) fullShare) ⊛ ‵ ftrue) ⊛ ‵ (Nothing .own u (w₂ ∷ []))) ⊛ raw (ensured 𝓤 H A put.ended (put.clauses 𝓤 H A mem″ run) (put-lfts c ν δ) (put-args c ν δ) tt u)))) (id⊢ 𝓤 _) $ await ! tt $ pick ! (λ u.
         split ! $ move ! (1 ∷ []) $ use1 W (some (λ (zt : Unit {0} × (Unit {0} × (List ℕ × Unit {0}))). ‵ (lasts put.ended (put-lfts c ν δ) (put-args c ν δ) zt) ⊛ raw (fact 𝓤 (ToldPut c ν δ (zt .1 .1 .0))))) (id⊢ 𝓤 _) $ pick ! (λ zt. let zs : List ℕ = zt .1 .1 .0 in

@@ -60,7 +60,7 @@ use Rattle.edges.specs.InEdges.{edgeWords}
 use Rattle.edges.proofs.InEdge as T
 use Rattle.edges.proofs.InEdge.Laws as T′
 use Rattle.edges.proofs.InEdges.{words}
-use Rattle.join_entry.specs.Parts.{Fits}
+use Rattle.join_entry.specs.Parts.{EdgesFit}
 use Rattle.join_entry.proofs.Words.{put-none, put-next}
 use Rattle.join_entry.proofs.put_edge as one
 use Rattle.join_entry.proofs.put_edge.Symbol as one-def
@@ -104,7 +104,7 @@ module _ {M : Type 1} (𝓤 : URA M) (H : Heap 𝓤) (A : Atoms 𝓤) (mem″ : 
   OneC = tripleOf 𝓤 H A one.signature (one.spec 𝓤 H A mem″ run)
 
 module _ {M : Type 1} (𝓤 : URA M) (H : Heap 𝓤) (A : Atoms 𝓤) (W : Given 𝓤 H A) (mem″ : Memory → SProp 𝓤) (run : Routine → Fun 𝓤) (κ₀ κ₁ : Lft) (q₀ q₁ : Share)
-    (b₀ o₀ : ℕ) (γ₀ : GName) (es : List InEdge) (n : ℕ) (b₁ o₁ : ℕ) (γ₁ : GName) (ws : List ℕ) (room₀ : Room R (length es)) (n-fits : n < 2 ^ 64) (room₁ : Room u64 (length ws)) (within : Fits n es ws) where
+    (b₀ o₀ : ℕ) (γ₀ : GName) (es : List InEdge) (n : ℕ) (b₁ o₁ : ℕ) (γ₁ : GName) (ws : List ℕ) (room₀ : Room R (length es)) (n-fits : n < 2 ^ 64) (room₁ : Room u64 (length ws)) (within : EdgesFit n es ws) where
   abbrev x₀ : RefT (List InEdge)
   x₀ = record { ptr = (b₀, o₀); name = γ₀; now = es }
 
@@ -284,7 +284,7 @@ module _ {M : Type 1} (𝓤 : URA M) (H : Heap 𝓤) (A : Atoms 𝓤) (W : Given
   put-words-walks =
       walked 𝓤 H A f.ended stayed (f.clauses 𝓤 H A mem″ run) (WpFn 𝓤 H (𝓣 .C) (𝓣 .Λ) code.function)
       (λ κs. (slice-vals, (uint-vals w64, (slice-vals, tt)))) (λ κs. (shr-slice-tells (named 0) (κs .0) R, (uint-tells w64, (mut-slice-tells (named 1) (κs .1 .0) u64, tt))))
-      (λ κs qs bounds a g are. needs 𝓤 (Fits (a .1 .0) (a .0 .now) (a .1 .1 .0 .now)) _ (λ within.
+      (λ κs qs bounds a g are. needs 𝓤 (EdgesFit (a .1 .0) (a .0 .now) (a .1 .1 .0 .now)) _ (λ within.
       walk 𝓤 H A W mem″ run (κs .0) (κs .1 .0) (qs .0) (qs .1 .0) (a .0 .ptr .0) (a .0 .ptr .1) (a .0 .name) (a .0 .now) (a .1 .0) (a .1 .1 .0 .ptr .0) (a .1 .1 .0 .ptr .1) (a .1 .1 .0 .name) (a .1 .1 .0 .now)
       (are .0 .0 .1) (are .1 .0 .1) (are .1 .1 .0 .0 .1) within 𝓣 (fmOf 𝓤 H (W .laws) 𝓣) known))
 

@@ -2,8 +2,8 @@
 use mathlib.Core.Path.{ap}
 use denote.Ref.{now}
 use Rattle.text.proofs.Laws.{put-as}
-use Rattle.record_text.specs.Line.{lineText, printedName}
-use Rattle.record_text.proofs.KnownKinds.{by-identifiers}
+use Rattle.line_text.specs.Record.{lineText, printedName}
+use Rattle.line_text.proofs.KnownKinds.{by-identifiers}
 use Rattle.line_text.specs.Line.{nodes, nidAt}
 use borrow.Author.Needs.{needs}
 use Rattle.line_text.proofs.put_found.Statement.{statement}

@@ -3,7 +3,7 @@ use denote.Ref.{now}
 use borrow.Author.Needs.{needs}
 use borrow.Author.Tests.{lt-ltb}
 use Rattle.lowering.specs.Lowering.{lent}
-use Rattle.state_words.specs.Words.{stateWords}
+use Rattle.state.specs.Words.{stateWords}
 use Rattle.lowering.specs.All.{loweringAllWords}
 use Rattle.lowering_calls.proofs.Entries.{many}
 use Rattle.lowering_calls.proofs.lower_all.Statement.{statement}

@@ -4,7 +4,7 @@ use denote.Ref.{now}
 use borrow.Author.Needs.{needs}
 use borrow.Author.Tests.{lt-ltb}
 use Rattle.lowering.specs.Lowering.{lent}
-use Rattle.state_words.specs.Words.{stateWords}
+use Rattle.state.specs.Words.{stateWords}
 use Rattle.lowering.specs.Words.{given}
 use Rattle.lowering_calls.specs.Apart.{givenApart}
 use Rattle.lowering_calls.specs.Known.{knownWords}

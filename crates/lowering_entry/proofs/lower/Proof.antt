@@ -44,11 +44,11 @@ use Rattle.btor2.proofs.NodeRef.Laws as Nd′
 use Rattle.riscv.specs.declared.Instruction.{Instruction}
 use Rattle.riscv.proofs.Instruction as In
 use Rattle.riscv.proofs.Instruction.Laws as In′
-use Rattle.lowering_refusals.specs.declared.State.{State}
-use Rattle.lowering_refusals.proofs.State as St
-use Rattle.lowering_refusals.proofs.State.Laws as St′
-use Rattle.lowering_refusals.proofs.Counts as Ct
-use Rattle.lowering_refusals.proofs.Counts.Laws as Ct′
+use Rattle.state.specs.declared.State.{State}
+use Rattle.state.proofs.State as St
+use Rattle.state.proofs.State.Laws as St′
+use Rattle.state.proofs.Counts as Ct
+use Rattle.state.proofs.Counts.Laws as Ct′
 use Rattle.lowering.specs.declared.Lowered.{Lowered}
 use Rattle.lowering.specs.Lowering.{lent, answer, lowering}
 use Rattle.lowering.proofs.Lowered as Lw
@@ -56,11 +56,11 @@ use Rattle.lowering.proofs.Lowered.Laws as Lw′
 use Rattle.edges.specs.InEdges.{edgeWords}
 use Rattle.lowering_entry.specs.Parts.{appended, Rejoined}
 use Rattle.edges.specs.declared.InEdge.{InEdge}
-use Rattle.lowering_entry.specs.declared.Apart.{Apart}
+use Rattle.lowering_entry.specs.declared.LoweredWithEdges.{LoweredWithEdges}
 use Rattle.edges.proofs.InEdge as T
 use Rattle.edges.proofs.InEdge.Laws as T′
-use Rattle.lowering_entry.proofs.Apart as Ap
-use Rattle.lowering_entry.proofs.Apart.Laws as Ap′
+use Rattle.lowering_entry.proofs.LoweredWithEdges as Ap
+use Rattle.lowering_entry.proofs.LoweredWithEdges.Laws as Ap′
 use Rattle.lowering_entry.proofs.lower_apart as core
 use Rattle.lowering_entry.proofs.lower_apart.Symbol as core-def
 use Rattle.lowering_entry.proofs.lower_apart.Symbol.{name as #core}
@@ -103,7 +103,7 @@ st-vals = LL.vals St.the-type St′.the-laws
 abbrev Ap-row : RattleType
 Ap-row = Ap.the-row
 
-abbrev ap-val : Apart → Val
+abbrev ap-val : LoweredWithEdges → Val
 ap-val = LL.val Ap.the-type Ap′.the-laws
 
 abbrev Lw-row : RattleType
@@ -128,8 +128,8 @@ module _ {M : Type 1} (𝓤 : URA M) (H : Heap 𝓤) (A : Atoms 𝓤) (mem : Mem
 
 module _ {M : Type 1} (𝓤 : URA M) (H : Heap 𝓤) (A : Atoms 𝓤) (W : Given 𝓤 H A) (mem : Memory → SProp 𝓤) (run : Routine → Fun 𝓤) (κ₀ κ₁ κ₂ κ₃ κ₄ : Lft) (q₀ q₁ q₂ q₃ q₄ : Share)
     (b₀ o₀ : ℕ) (γ₀ : GName) (ws : List ℕ) (b₁ o₁ : ℕ) (γ₁ : GName) (ns : List ℕ) (b₂ o₂ : ℕ) (γ₂ : GName) (es : List InEdge) (b₃ o₃ : ℕ) (γ₃ : GName) (ds : List ℕ) (b₄ o₄ : ℕ) (γ₄ : GName) (bs : List ℕ)
-    (st : State) (i : Instruction) (pc : ℕ) (flag : NodeRef)
-    (room₀ : Room u64 (length ws)) (room₁ : Room u8 (length ns)) (room₂ : Room R (length es)) (room₃ : Room u64 (length ds)) (room₄ : Room u64 (length bs)) (st-is : Is St-row st (st-vals st)) (i-is : Is In-row i (in-vals i)) (pc-fits : pc < 2 ^ 64) (flag-is : Is Nd-row flag (nd-vals flag)) where
+    (st : State) (i : Instruction) (address : ℕ) (flag : NodeRef)
+    (room₀ : Room u64 (length ws)) (room₁ : Room u8 (length ns)) (room₂ : Room R (length es)) (room₃ : Room u64 (length ds)) (room₄ : Room u64 (length bs)) (st-is : Is St-row st (st-vals st)) (i-is : Is In-row i (in-vals i)) (pc-fits : address < 2 ^ 64) (flag-is : Is Nd-row flag (nd-vals flag)) where
   abbrev x₀ : RefT (List ℕ)
   x₀ = record { ptr = (b₀, o₀); name = γ₀; now = ws }
 
@@ -164,20 +164,20 @@ module _ {M : Type 1} (𝓤 : URA M) (H : Heap 𝓤) (A : Atoms 𝓤) (W : Given
   Arg = RefT (List ℕ) × (RefT (List ℕ) × (RefT (List InEdge) × (RefT (List ℕ) × (RefT (List ℕ) × (State × (Instruction × (ℕ × (NodeRef × Unit {0}))))))))
 
   abbrev a : Arg
-  a = (x₀, (x₁, (x₂, (x₃, (x₄, (st, (i, (pc, (flag, tt)))))))))
+  a = (x₀, (x₁, (x₂, (x₃, (x₄, (st, (i, (address, (flag, tt)))))))))
 
   abbrev vals : List Val × (List Val × (List Val × (List Val × (List Val × (List Val × (List Val × (List Val × (List Val × Unit {0}))))))))
-  vals = (s₀ ∷ [], (s₁ ∷ [], (s₂ ∷ [], (s₃ ∷ [], (s₄ ∷ [], (st-vals st, (in-vals i, (vint w64 pc ∷ [], (nd-vals flag, tt)))))))))
+  vals = (s₀ ∷ [], (s₁ ∷ [], (s₂ ∷ [], (s₃ ∷ [], (s₄ ∷ [], (st-vals st, (in-vals i, (vint w64 address ∷ [], (nd-vals flag, tt)))))))))
 
   abbrev Post : Val → SProp 𝓤
   Post = walkOf 𝓤 H A f.ended stayed (f.clauses 𝓤 H A mem run) .post (((κ₀, (κ₁, (κ₂, (κ₃, (κ₄, tt))))), (q₀, (q₁, (q₂, (q₃, (q₄, tt))))), tt, a, vals), tt)
 
   -- what each callee's triple binds outside, and that the caller has what it asks
   abbrev core-args : RefT (List ℕ) × (RefT (List ℕ) × (ℕ × (RefT (List ℕ) × (RefT (List ℕ) × (State × (Instruction × (ℕ × (NodeRef × Unit {0}))))))))
-  core-args = (x₀, (x₁, (length es, (x₃, (x₄, (st, (i, (pc, (flag, tt)))))))))
+  core-args = (x₀, (x₁, (length es, (x₃, (x₄, (st, (i, (address, (flag, tt)))))))))
 
   abbrev to-core : CoreC 𝓤 H A mem run .Ghost
-  to-core = (((κ₀, (κ₁, (κ₃, (κ₄, tt)))), (q₀, (q₁, (q₃, (q₄, tt)))), tt, core-args, (s₀ ∷ [], (s₁ ∷ [], (vint w64 (length es) ∷ [], (s₃ ∷ [], (s₄ ∷ [], (st-vals st, (in-vals i, (vint w64 pc ∷ [], (nd-vals flag, tt)))))))))), tt)
+  to-core = (((κ₀, (κ₁, (κ₃, (κ₄, tt)))), (q₀, (q₁, (q₃, (q₄, tt)))), tt, core-args, (s₀ ∷ [], (s₁ ∷ [], (vint w64 (length es) ∷ [], (s₃ ∷ [], (s₄ ∷ [], (st-vals st, (in-vals i, (vint w64 address ∷ [], (nd-vals flag, tt)))))))))), tt)
 
   abbrev ForCore : List (Item 𝓤)
   ForCore = ‵ (flft κ₀ q₀) ∷ ‵ (flft κ₁ q₁) ∷ ‵ (flft κ₃ q₃) ∷ ‵ (flft κ₄ q₄) ∷ ‵ (MutSlice (named 0) κ₀ u64 .own x₀ (s₀ ∷ [])) ∷ ‵ (MutSlice (named 1) κ₁ u8 .own x₁ (s₁ ∷ [])) ∷ ‵ (MutSlice (named 3) κ₃ u64 .own x₃ (s₃ ∷ [])) ∷ ‵ (MutSlice (named 4) κ₄ u64 .own x₄ (s₄ ∷ [])) ∷ []
@@ -186,25 +186,25 @@ module _ {M : Type 1} (𝓤 : URA M) (H : Heap 𝓤) (A : Atoms 𝓤) (W : Given
   goes-core =
       qed W ForCore ∵
       nothing ! $ move ! (1 ∷ 2 ∷ 3 ∷ 4 ∷ 0 ∷ []) $ group ! 5 $
-      nothing ! $ owned ! Nd-row (Is Nd-row) (LL.makes Nd.the-type Nd′.the-plain 𝓤 H A) flag _ flag-is $ fjoin ! $ owned ! u64 (Is u64) (uint-makes 𝓤 H A W w64) pc _ (refl, pc-fits) $ fjoin ! $ owned ! In-row (Is In-row) (LL.makes In.the-type In′.the-plain 𝓤 H A) i _ i-is $ fjoin ! $ owned ! St-row (Is St-row) (LL.makes St.the-type St′.the-plain 𝓤 H A) st _ st-is $ fjoin ! $
+      nothing ! $ owned ! Nd-row (Is Nd-row) (LL.makes Nd.the-type Nd′.the-plain 𝓤 H A) flag _ flag-is $ fjoin ! $ owned ! u64 (Is u64) (uint-makes 𝓤 H A W w64) address _ (refl, pc-fits) $ fjoin ! $ owned ! In-row (Is In-row) (LL.makes In.the-type In′.the-plain 𝓤 H A) i _ i-is $ fjoin ! $ owned ! St-row (Is St-row) (LL.makes St.the-type St′.the-plain 𝓤 H A) st _ st-is $ fjoin ! $
       move ! (5 ∷ 0 ∷ []) $ fjoin ! $ move ! (4 ∷ 0 ∷ []) $ fjoin ! $ owned ! usize (Is usize) (uint-makes 𝓤 H A W w64) (length es) _ (refl, room₂ .0) $ fjoin ! $ move ! (3 ∷ 0 ∷ []) $ fjoin ! $ move ! (2 ∷ 0 ∷ []) $ fjoin ! $ move ! (1 ∷ 0 ∷ []) $ join ! $ frame ! $ done !
 
-  abbrev Told : Apart → List ℕ → List ℕ → List ℕ → List ℕ → Type 0
+  abbrev Told : LoweredWithEdges → List ℕ → List ℕ → List ℕ → List ℕ → Type 0
   Told r vs₀ vs₁ vs₃ vs₄ =
       (fs : List InEdge) → length fs ≡ length es
-      → Rejoined fs (st .counts .edges) r (λ after. answer (r .lowered) (lent vs₀ vs₁ (edgeWords after) vs₃ vs₄) ≡ lowering (lent ws ns (edgeWords fs) ds bs) st i pc flag)
+      → Rejoined fs (st .counts .edges) r (λ after. answer (r .lowered) (lent vs₀ vs₁ (edgeWords after) vs₃ vs₄) ≡ lowering (lent ws ns (edgeWords fs) ds bs) st i address flag)
 
   -- the count of edges, and the parts of what the core gave
   count-is : Is usize (st .counts .edges) (vint w64 (st .counts .edges) ∷ [])
   count-is = LL.owed Ct.the-type Ct′.the-laws (st .counts) _ (LL.owed St.the-type St′.the-laws st _ st-is .1 .0) .1 .0
 
-  abbrev two-args : Apart → RefT (List InEdge) × (ℕ × (ℕ × (InEdge × (InEdge × Unit {0}))))
+  abbrev two-args : LoweredWithEdges → RefT (List InEdge) × (ℕ × (ℕ × (InEdge × (InEdge × Unit {0}))))
   two-args r = (x₂, (st .counts .edges, (r .added, (r .first, (r .second, tt)))))
 
-  abbrev to-two : Apart → AppendC 𝓤 H A mem run .Ghost
+  abbrev to-two : LoweredWithEdges → AppendC 𝓤 H A mem run .Ghost
   to-two r = (((κ₂, tt), (q₂, tt), tt, two-args r, (s₂ ∷ [], (vint w64 (st .counts .edges) ∷ [], (vint w64 (r .added) ∷ [], (T′.lowered (r .first) ∷ [], (T′.lowered (r .second) ∷ [], tt)))))), tt)
 
-  goes-two : (r : Apart) (vs₀ : List ℕ) (vs₁ : List ℕ) (vs₃ : List ℕ) (vs₄ : List ℕ) → Told r vs₀ vs₁ vs₃ vs₄ → Is Ap-row r (ap-val r ∷ [])
+  goes-two : (r : LoweredWithEdges) (vs₀ : List ℕ) (vs₁ : List ℕ) (vs₃ : List ℕ) (vs₄ : List ℕ) → Told r vs₀ vs₁ vs₃ vs₄ → Is Ap-row r (ap-val r ∷ [])
       → ent 𝓤 (sep 𝓤 (sep 𝓤 (A .lft κ₂ q₂) (sem 𝓤 H A ftrue)) (sem 𝓤 H A (MutSlice (named 0) κ₂ R .own x₂ (s₂ ∷ [])))) (AppendC 𝓤 H A mem run .pre (to-two r))
   goes-two r vs₀ vs₁ vs₃ vs₄ e is =
       let parts = LL.owed Ap.the-type Ap′.the-laws r _ is in
@@ -214,7 +214,7 @@ module _ {M : Type 1} (𝓤 : URA M) (H : Heap 𝓤) (A : Atoms 𝓤) (W : Given
   abbrev AtExit : List ℕ → List ℕ → List InEdge → List ℕ → List ℕ → List (Item 𝓤)
   AtExit vs₀ vs₁ fs vs₃ vs₄ = ‵ (flft κ₀ q₀) ∷ ‵ (flft κ₁ q₁) ∷ ‵ (flft κ₂ q₂) ∷ ‵ (flft κ₃ q₃) ∷ ‵ (flft κ₄ q₄) ∷ ‵ (finally u64 γ₀ vs₀) ∷ ‵ (finally u8 γ₁ vs₁) ∷ ‵ (finally R γ₂ fs) ∷ ‵ (finally u64 γ₃ vs₃) ∷ ‵ (finally u64 γ₄ vs₄) ∷ []
 
-  exits : (r : Apart) (vs₀ vs₁ : List ℕ) (fs : List InEdge) (vs₃ vs₄ : List ℕ) → Told r vs₀ vs₁ vs₃ vs₄ → fs ≡ appended es (st .counts .edges) (r .added) (r .first) (r .second)
+  exits : (r : LoweredWithEdges) (vs₀ vs₁ : List ℕ) (fs : List InEdge) (vs₃ vs₄ : List ℕ) → Told r vs₀ vs₁ vs₃ vs₄ → fs ≡ appended es (st .counts .edges) (r .added) (r .first) (r .second)
       → length vs₀ ≡ length ws → length vs₁ ≡ length ns → length fs ≡ length es → length vs₃ ≡ length ds → length vs₄ ≡ length bs → Is Lw-row (r .lowered) (lw-vals (r .lowered))
       → ent 𝓤 (⋆ 𝓤 H A (AtExit vs₀ vs₁ fs vs₃ vs₄)) (Post (lw-val (r .lowered)))
   exits r vs₀ vs₁ fs vs₃ vs₄ e e₂ same₀ same₁ same₂ same₃ same₄ is =
@@ -222,13 +222,13 @@ module _ {M : Type 1} (𝓤 : URA M) (H : Heap 𝓤) (A : Atoms 𝓤) (W : Given
       suffices ! _ (ends-at 𝓤 H A f.ended stayed (f.clauses 𝓤 H A mem run) W (((κ₀, (κ₁, (κ₂, (κ₃, (κ₄, tt))))), (q₀, (q₁, (q₂, (q₃, (q₄, tt))))), tt, a, vals), tt) (lw-val (r .lowered)) (r .lowered) (vs₀, (vs₁, (fs, (vs₃, (vs₄, (tt, (tt, (tt, (tt, tt))))))))) (same₀, (same₁, (same₂, (same₃, (same₄, (tt, (tt, (tt, (tt, tt)))))))))) $
       says ! (rw e₂ (e es refl .right)) $
       nothing ! $ move ! (1 ∷ 2 ∷ 3 ∷ 4 ∷ 5 ∷ 0 ∷ []) $ group ! 6 $ frame ! $
-      nothing ! $ owned ! Nd-row (Is Nd-row) (LL.makes Nd.the-type Nd′.the-plain 𝓤 H A) flag _ flag-is $ fjoin ! $ owned ! u64 (Is u64) (uint-makes 𝓤 H A W w64) pc _ (refl, pc-fits) $ fjoin ! $ owned ! In-row (Is In-row) (LL.makes In.the-type In′.the-plain 𝓤 H A) i _ i-is $ fjoin ! $ owned ! St-row (Is St-row) (LL.makes St.the-type St′.the-plain 𝓤 H A) st _ st-is $ fjoin ! $
+      nothing ! $ owned ! Nd-row (Is Nd-row) (LL.makes Nd.the-type Nd′.the-plain 𝓤 H A) flag _ flag-is $ fjoin ! $ owned ! u64 (Is u64) (uint-makes 𝓤 H A W w64) address _ (refl, pc-fits) $ fjoin ! $ owned ! In-row (Is In-row) (LL.makes In.the-type In′.the-plain 𝓤 H A) i _ i-is $ fjoin ! $ owned ! St-row (Is St-row) (LL.makes St.the-type St′.the-plain 𝓤 H A) st _ st-is $ fjoin ! $
       move ! (5 ∷ 0 ∷ []) $ fjoin ! $ move ! (4 ∷ 0 ∷ []) $ fjoin ! $ move ! (3 ∷ 0 ∷ []) $ fjoin ! $ move ! (2 ∷ 0 ∷ []) $ fjoin ! $ move ! (1 ∷ 0 ∷ []) $ fjoin ! $ frame ! $ owned ! Lw-row (Is Lw-row) (LL.makes Lw.the-type Lw′.the-plain 𝓤 H A) (r .lowered) _ is $ done !
 
   module _ (C : Calls 𝓤 H) (Λ : Loops 𝓤 H) (fm : FmC 𝓤 H (W .laws) C) (known-core : Triple 𝓤 (C #core) (CoreC 𝓤 H A mem run)) (known-two : Triple 𝓤 (C #append) (AppendC 𝓤 H A mem run)) where
-    walk : ent 𝓤 (onEntry 𝓤 H A f.signature (κ₀, (κ₁, (κ₂, (κ₃, (κ₄, tt))))) (q₀, (q₁, (q₂, (q₃, (q₄, tt))))) a vals) (WpFn 𝓤 H C Λ code.function (s₀ ∷ s₁ ∷ s₂ ∷ s₃ ∷ s₄ ∷ st-val st ∷ In′.lowered i ∷ vint w64 pc ∷ Nd′.lowered flag ∷ []) Post)
+    walk : ent 𝓤 (onEntry 𝓤 H A f.signature (κ₀, (κ₁, (κ₂, (κ₃, (κ₄, tt))))) (q₀, (q₁, (q₂, (q₃, (q₄, tt))))) a vals) (WpFn 𝓤 H C Λ code.function (s₀ ∷ s₁ ∷ s₂ ∷ s₃ ∷ s₄ ∷ st-val st ∷ In′.lowered i ∷ vint w64 address ∷ Nd′.lowered flag ∷ []) Post)
     walk =
-        qed W ((‵ (flft κ₀ q₀) ⊛ ‵ (flft κ₁ q₁) ⊛ ‵ (flft κ₂ q₂) ⊛ ‵ (flft κ₃ q₃) ⊛ ‵ (flft κ₄ q₄) ⊛ ‵ ftrue) ∷ ‵ (owns (MutSlice (named 0) κ₀ u64 ∷ MutSlice (named 1) κ₁ u8 ∷ MutSlice (named 2) κ₂ R ∷ MutSlice (named 3) κ₃ u64 ∷ MutSlice (named 4) κ₄ u64 ∷ St-row ∷ In-row ∷ u64 ∷ Nd-row ∷ []) a vals) ∷ []) ∵ enter ! C Λ code.function (s₀ ∷ s₁ ∷ s₂ ∷ s₃ ∷ s₄ ∷ st-val st ∷ In′.lowered i ∷ vint w64 pc ∷ Nd′.lowered flag ∷ []) _ $
+        qed W ((‵ (flft κ₀ q₀) ⊛ ‵ (flft κ₁ q₁) ⊛ ‵ (flft κ₂ q₂) ⊛ ‵ (flft κ₃ q₃) ⊛ ‵ (flft κ₄ q₄) ⊛ ‵ ftrue) ∷ ‵ (owns (MutSlice (named 0) κ₀ u64 ∷ MutSlice (named 1) κ₁ u8 ∷ MutSlice (named 2) κ₂ R ∷ MutSlice (named 3) κ₃ u64 ∷ MutSlice (named 4) κ₄ u64 ∷ St-row ∷ In-row ∷ u64 ∷ Nd-row ∷ []) a vals) ∷ []) ∵ enter ! C Λ code.function (s₀ ∷ s₁ ∷ s₂ ∷ s₃ ∷ s₄ ∷ st-val st ∷ In′.lowered i ∷ vint w64 address ∷ Nd′.lowered flag ∷ []) _ $
         alloc1 ! (λ l₀. alloc1 ! (λ l₁. alloc1 ! (λ l₂. alloc1 ! (λ l₃. alloc1 ! (λ l₄. alloc1 ! (λ l₅. alloc1 ! (λ l₆. alloc1 ! (λ l₇. alloc1 ! (λ l₈. alloc1 ! (λ l₉. alloc1 ! (λ l₁₀. alloc1 ! (λ l₁₁. alloc1 ! (λ l₁₂. alloc1 ! (λ l₁₃. alloc1 ! (λ l₁₄. alloc1 ! (λ l₁₅. alloc1 ! (λ l₁₆. alloc1 ! (λ l₁₇. alloc1 ! (λ l₁₈. alloc1 ! (λ l₁₉. alloc1 ! (λ l₂₀. alloc1 ! (λ l₂₁. alloc1 ! (λ l₂₂. alloc0 ! $ params1 ! $
         pass1 ! (init ! 42 refl (tt, (tt, (record { fits = room₀ .0 }, tt)))) $ pass1 ! (init ! 40 refl (tt, (tt, (record { fits = room₁ .0 }, tt)))) $ pass1 ! (init ! 38 refl (tt, (tt, (record { fits = room₂ .0 }, tt)))) $ pass1 ! (init ! 36 refl (tt, (tt, (record { fits = room₃ .0 }, tt)))) $ pass1 ! (init ! 34 refl (tt, (tt, (record { fits = room₄ .0 }, tt)))) $
         pass1 ! (init ! 32 refl (LL.lawful St.the-type St′.the-laws 𝓤 H A W .typed st (st-vals st) st-is .0)) $ pass1 ! (init ! 30 refl (LL.lawful In.the-type In′.the-laws 𝓤 H A W .typed i (in-vals i) i-is .0)) $ pass1 ! (init ! 28 refl (tt, record { fits = pc-fits })) $ pass1 ! (init ! 26 refl (LL.lawful Nd.the-type Nd′.the-laws 𝓤 H A W .typed flag (nd-vals flag) flag-is .0)) $ pass0 ! $
@@ -247,7 +247,7 @@ module _ {M : Type 1} (𝓤 : URA M) (H : Heap 𝓤) (A : Atoms 𝓤) (W : Given
         move ! (51 ∷ []) $ split ! $ move ! (1 ∷ []) $ split ! $ move ! (1 ∷ []) $ split ! $ move ! (1 ∷ []) $ split ! $ move ! (1 ∷ []) $ split ! $
         move ! (5 ∷ 4 ∷ 2 ∷ 0 ∷ 10 ∷ 9 ∷ 7 ∷ 6 ∷ []) $ group ! 8 $ use1 W (raw (CoreC 𝓤 H A mem run .pre to-core)) goes-core $
         calls-at ! fm (CoreC 𝓤 H A mem run) known-core to-core (and-then ! (load ! (from ! (stop !)) (look ! 24 refl)) (and-then ! (load ! (from ! (stop !)) (look ! 20 refl)) (and-then ! (load ! (from ! (stop !)) (look ! 18 refl)) (and-then ! (load ! (from ! (stop !)) (look ! 14 refl)) (and-then ! (load ! (from ! (stop !)) (look ! 10 refl)) (and-then ! (load ! (from ! (stop !)) (look ! 36 refl)) (and-then ! (load ! (from ! (stop !)) (look ! 34 refl)) (and-then ! (load ! (from ! (stop !)) (look ! 32 refl)) (and-then ! (load ! (from ! (stop !)) (look ! 30 refl)) (no-more !)))))))))) (λ w.
-        use1 W (later (some (λ (r : Apart). ((‵ (flft κ₀ q₀) ⊛ ‵ (flft κ₁ q₁) ⊛ ‵ (flft κ₃ q₃) ⊛ ‵ (flft κ₄ q₄) ⊛ ‵ ftrue) ⊛ ‵ (Ap-row .own r (w ∷ []))) ⊛ raw (ensured 𝓤 H A core.ended (core.clauses 𝓤 H A mem run) (κ₀, (κ₁, (κ₃, (κ₄, tt)))) core-args tt r)))) (id⊢ 𝓤 _) $ await ! tt $ pick ! (λ r.
+        use1 W (later (some (λ (r : LoweredWithEdges). ((‵ (flft κ₀ q₀) ⊛ ‵ (flft κ₁ q₁) ⊛ ‵ (flft κ₃ q₃) ⊛ ‵ (flft κ₄ q₄) ⊛ ‵ ftrue) ⊛ ‵ (Ap-row .own r (w ∷ []))) ⊛ raw (ensured 𝓤 H A core.ended (core.clauses 𝓤 H A mem run) (κ₀, (κ₁, (κ₃, (κ₄, tt)))) core-args tt r)))) (id⊢ 𝓤 _) $ await ! tt $ pick ! (λ r.
         split ! $ move ! (1 ∷ []) $ use1 W (some (λ (zs : List ℕ × (List ℕ × (Unit {0} × (List ℕ × (List ℕ × (Unit {0} × (Unit {0} × (Unit {0} × (Unit {0} × Unit {0}))))))))). ‵ (lasts core.ended (κ₀, (κ₁, (κ₃, (κ₄, tt)))) core-args zs) ⊛ raw (fact 𝓤 (Told r (zs .0) (zs .1 .0) (zs .1 .1 .1 .0) (zs .1 .1 .1 .1 .0))))) (id⊢ 𝓤 _) $ pick ! (λ zs.
         split ! $ move ! (1 ∷ []) $ heard ! (Told r (zs .0) (zs .1 .0) (zs .1 .1 .1 .0) (zs .1 .1 .1 .1 .0)) (λ e. fsplit ! $ fsplit ! $ move ! (1 ∷ []) $ feqL ! (λ same₀. move ! (1 ∷ []) $ fsplit ! $ fsplit ! $ move ! (1 ∷ []) $ feqL ! (λ same₁. move ! (1 ∷ []) $ fsplit ! $ drop ! $ fsplit ! $ fsplit ! $ move ! (1 ∷ []) $ feqL ! (λ same₃. move ! (1 ∷ []) $ fsplit ! $ fsplit ! $ move ! (1 ∷ []) $ feqL ! (λ same₄. move ! (1 ∷ []) $ drop ! $
         move ! (4 ∷ []) $ split ! $ move ! (1 ∷ []) $ peeks ! Ap-row (Is Ap-row) (shows 𝓤 H A Ap-row) r (w ∷ []) (λ is₀.

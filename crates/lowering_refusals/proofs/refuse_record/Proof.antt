@@ -8,7 +8,7 @@ use borrow.Author.Tests.{ne-eqb, eq-eqb}
 use denote.Ref.{now}
 use Rattle.riscv.specs.Refusal.{refusal, first}
 use Rattle.riscv.proofs.First.{hit, miss}
-use Rattle.lowering_refusals.specs.declared.Room.{Room}
+use Rattle.state.specs.declared.room.Room.{Room}
 use Rattle.lowering_refusals.specs.Refusal.{needs as needed, roomOut, flagOut}
 use Rattle.lowering_refusals.proofs.Tests.{from8, from7, fromRecord}
 use Rattle.lowering_refusals.proofs.refuse_record.Statement.{statement}

@@ -11,7 +11,7 @@ use Rattle.btor2_list.specs.Record.{capacity}
 use Rattle.btor2_list.specs.View.{view}
 use Rattle.list_check.specs.Lines.{ops, pastWords}
 use Rattle.list_check.specs.Formed.{unformed}
-use Rattle.lowering_refusals.proofs.Within.{lines-within}
+use Rattle.state.proofs.Within.{lines-within}
 use Rattle.nid_check.specs.Identifiers.{taken, nidsOut}
 use Rattle.start.specs.Start.{listRefusal}
 use Rattle.start.proofs.check_list.Statement.{statement}

@@ -7,9 +7,9 @@ use lib.Dec.{eqb}
 use denote.Ref.{now}
 use lib.ListN.{length}
 use Rattle.btor2_list.specs.Limits.{mostStartNid}
-use Rattle.lowering_refusals.specs.declared.Room.{Room}
-use Rattle.lowering_refusals.specs.Refusal.{roomOf, countsOut}
-use Rattle.roles_check.specs.RolesFit.{rolesFit}
+use Rattle.state.specs.declared.room.Room.{Room}
+use Rattle.state.specs.Room.{roomOf, countsOut}
+use Rattle.state.specs.RolesFit.{rolesFit}
 use Rattle.start.specs.Start.{startRefusal}
 use Rattle.start.proofs.ByList.{by-list}
 use Rattle.start.proofs.check_start.Statement.{statement}

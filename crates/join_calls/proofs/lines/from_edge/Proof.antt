@@ -5,7 +5,7 @@ use borrow.Author.Needs.{needs}
 use borrow.Author.Tests.{ne-eqb}
 use Rattle.builder.proofs.Gives.{free}
 use Rattle.join.specs.Program.{fromEdge}
-use Rattle.control_flow.proofs.Lists.{lists, quiet-regular, quiet-branch}
+use Rattle.join.proofs.Lists.{lists, quiet-regular, quiet-branch}
 use Rattle.join_calls.proofs.lines.from_edge.Statement.{statement}
 use Rattle.join_calls.proofs.lines.from_edge.Tie as tie
 

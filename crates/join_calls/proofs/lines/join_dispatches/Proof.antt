@@ -5,10 +5,10 @@ use native.Mathlib.Omega.{arith}
 use borrow.Author.Needs.{needs}
 use denote.Ref.{now}
 use lib.ListN.{length, drop}
-use Rattle.roles.specs.Roles.{registerNode}
+use Rattle.state.specs.Roles.{registerNode}
 use Rattle.edges.specs.Edges.{dispatchStride}
 use Rattle.join.specs.Given.{dispatchIn, dispatchesIn, dynamicFor}
-use Rattle.control_flow.specs.Code.{bitPlaces}
+use Rattle.join.specs.Code.{bitPlaces}
 use Rattle.btor2_list.proofs.Records.{records-next, records-none}
 use Rattle.join_calls.proofs.Going.{Dispatching, dispatching, dispatch-goes, dispatch-ends}
 use Rattle.join_calls.proofs.lines.join_dispatches.Statement.{statement}

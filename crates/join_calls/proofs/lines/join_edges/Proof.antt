@@ -7,7 +7,7 @@ use denote.Ref.{now}
 use lib.ListN.{length, drop}
 use Rattle.edges.specs.Edges.{edgeStride}
 use Rattle.join.specs.Given.{edgeIn, edgesIn, flagsIn, flagFor}
-use Rattle.control_flow.specs.Code.{bitPlaces, kernelPlaces}
+use Rattle.join.specs.Code.{bitPlaces, kernelPlaces}
 use Rattle.btor2_list.proofs.Records.{records-next, records-none}
 use Rattle.join_calls.proofs.Going.{Going, begins, one-of, goes, ends}
 use Rattle.join_calls.proofs.lines.join_edges.Statement.{statement}

@@ -1,4 +1,0 @@
-pub mod FlagName
-pub mod Listed
-pub mod ControlFlow
-pub mod Code

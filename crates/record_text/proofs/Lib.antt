@@ -1,2 +1,0 @@
-pub mod KnownKinds
-mod Examples

@@ -1,0 +1,5 @@
+pub mod Words
+pub mod Put
+pub mod Room
+pub mod Roles
+pub mod RolesFit
