@@ -352,9 +352,11 @@ def answer(function, need, records):
 
 
 def lemmas():
-    """What Steps.antt has for us: its public records and lemmas, without the records' fields."""
+    """What Steps.antt has for us: its public records, lemmas and constructors, without the records' fields."""
     text = re.sub(r"(pub record .* where\n)(?:  pub .*\n)+", r"\1", (PROOF.parent.parent / "Steps.antt").read_text())
-    return re.findall(r"^ *pub (?:record )?([a-zA-Z][\w-]*) ?[:(]", text, flags=re.M)
+    data = "".join(re.findall(r"^pub data .* where\n((?:  .*\n)+)", text, flags=re.M))
+    constructors = re.findall(r"^  ([a-z][\w-]*) :", data, flags=re.M)
+    return re.findall(r"^ *pub (?:record )?([a-zA-Z][\w-]*) ?[:(]", text, flags=re.M) + constructors
 
 
 def proof(text, records):
