@@ -55,7 +55,7 @@ def commands():
 
     def look(lines, place):
         if not (place < lines and place < HOLDS):
-            return (3, lines, place), "outside"
+            return (3, lines, place), "0 no value"
         nid, kind, sort = records[place][:3]
         s = carried(kind, sort)
         return (3, lines, place), f"{nid} no value" if s is None else f"{nid} value of sort {s}"

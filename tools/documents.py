@@ -208,7 +208,7 @@ def command_error(tree, words):
         if words[1:2] and words[1] not in ("check", "try", "dev", "staticlib", "fmt", "ci", "must-fail"):
             return f"rt has no command {words[1]} that is known here"
         return next((f"{word} is no crate" for word in words[2:3] if word not in tree.crates), None)
-    return None if tree.found(words[0]) else f"there is no {words[0]}"
+    return None if words[0].startswith(MADE) or tree.found(words[0]) else f"there is no {words[0]}"
 
 
 def name_error(tree, token, foreign):

@@ -45,6 +45,11 @@ sorts = Bit ∷ Word ∷ Memory ∷ Input1Byte ∷ Input2Byte ∷ Input3Byte ∷
 abbrev pub sortNumbered : ℕ → MaybeSort
 sortNumbered n = firstNumbered sorts n
 
+-- the number of a sort, 0 for none
+abbrev pub sortOrNone : MaybeSort → ℕ
+sortOrNone (Sort s) = sortNumber s
+sortOrNone NoSort = 0
+
 -- the same sort
 abbrev pub sameSort : NodeType → NodeType → Bool
 sameSort s t = eqb (sortNumber s) (sortNumber t)

@@ -3,14 +3,15 @@
 //   2 PLACE                                             gets one
 //   3 LINES PLACE                                       looks a place up
 //   4 AREA AT LEN                                       finds a name in `host` or in `own area`
+use btor2::MaybeSort;
 use btor2::Name;
 use btor2::NodeRef;
 use btor2::get_sort;
 use btor2_list::Found;
-use btor2_list::Line;
-use btor2_list::Looked;
 use cases::read_decimal;
 use cases::read_record;
+use cases::show;
+use cases::show_record;
 use libc::STDIN_FILENO;
 use libc::STDOUT_FILENO;
 
@@ -62,7 +63,7 @@ fn run_put(text: &[u8], at: usize, list: &mut [u64]) -> usize {
 fn run_get(text: &[u8], at: usize, list: &[u64]) -> usize {
     let place = read_decimal(text, at);
     match btor2_list::get(list, NodeRef(place.value as usize)) {
-        Found::Line(line) => show_line(line),
+        Found::Line(line) => show_record(line),
         Found::Outside => {
             io::write_all(STDOUT_FILENO, b"outside\n");
         }
@@ -70,30 +71,16 @@ fn run_get(text: &[u8], at: usize, list: &[u64]) -> usize {
     place.next
 }
 
-fn show_line(line: Line) {
-    show(line.nid.0, b" ");
-    show(line.kind, b" ");
-    show(line.sort, b" ");
-    show(line.op1.0 as u64, b" ");
-    show(line.op2.0 as u64, b" ");
-    show(line.op3.0 as u64, b" ");
-    show(line.imm, b" ");
-    show(line.name.area, b" ");
-    show(line.name.at, b" ");
-    show(line.name.len, b"\n");
-}
-
 fn run_look(text: &[u8], at: usize, list: &[u64]) -> usize {
     let lines = read_decimal(text, at);
     let place = read_decimal(text, lines.next);
-    match btor2_list::look(list, lines.value as usize, NodeRef(place.value as usize)) {
-        Looked::Outside => {
-            io::write_all(STDOUT_FILENO, b"outside\n");
-        }
-        Looked::NoValue(nid) => show(nid.0, b" no value\n"),
-        Looked::Value(nid, sort) => {
-            show(nid.0, b" value of sort ");
-            show(get_sort(sort), b"\n");
+    let looked = btor2_list::look(list, lines.value as usize, NodeRef(place.value as usize));
+    let sort = looked.sort;
+    match sort {
+        MaybeSort::NoSort => show(looked.nid.0, b" no value\n"),
+        MaybeSort::Sort(s) => {
+            show(looked.nid.0, b" value of sort ");
+            show(get_sort(s), b"\n");
         }
     }
     place.next
@@ -115,9 +102,4 @@ fn run_name(text: &[u8], at: usize) -> usize {
     );
     io::write_all(STDOUT_FILENO, b"]\n");
     len.next
-}
-
-fn show(n: u64, after: &[u8]) {
-    io::print_decimal(STDOUT_FILENO, n);
-    io::write_all(STDOUT_FILENO, after);
 }

@@ -6,3 +6,5 @@ pub mod Fitting
 pub mod Seen
 pub mod Records
 pub mod Got
+mod Init
+mod Sorted

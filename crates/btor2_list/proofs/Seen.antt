@@ -5,11 +5,10 @@ use mathlib.Core.List.{List}
 use native.Mathlib.Omega.{arith}
 use borrow.Author.Tests.{lt-ltb, le-ltb}
 use lib.ListN.{length, getD}
-use Rattle.btor2_list.specs.declared.Looked.the-variants.{Outside}
 use Rattle.btor2_list.specs.Record.{capacity, wordsFor}
 use Rattle.btor2_list.specs.Node.{Node}
 use Rattle.btor2_list.specs.View.{view}
-use Rattle.btor2_list.specs.Look.{seen, lookAt}
+use Rattle.btor2_list.specs.Look.{seen, outside, lookAt}
 use Rattle.btor2_list.proofs.View.{view-at}
 
 -- in a list whose n lines the words hold
@@ -19,5 +18,5 @@ module _ (ws : List ℕ) (n : ℕ) (room : wordsFor n ≤ length ws) (p : ℕ) w
       let there : p < capacity (length ws) = omega arith in
       rw (lt-ltb _ _ h, lt-ltb _ _ there) (ap seen (sym (view-at ws n d p h)))
 
-  pub look-past : n ≤ p → lookAt ws n p ≡ Outside
+  pub look-past : n ≤ p → lookAt ws n p ≡ outside
   look-past h = rw (le-ltb _ _ h)

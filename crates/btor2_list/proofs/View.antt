@@ -1,22 +1,22 @@
 -- The view of the lent words: a put after the last line adds that line and changes no other, and reading what was written gives it
 -- back. Assumes nothing.
 use Prim.Native.Nat.{ℕ, zero, suc, _+_, _≤_, _<_}
-use mathlib.Core.Path.{_≡_, refl, _∙_}
+use mathlib.Core.Path.{_≡_, refl, _∙_, ap, ap₂}
 use mathlib.Core.Bool.{true}
 use mathlib.Core.List.{List, [], _∷_, _++_}
 use mathlib.Core.Logic.{⊎-elim}
 use native.Mathlib.Omega.{arith}
 use native.Mathlib.Nat.{add-zero, eq-or-lt-of-le}
 use native.Mathlib.Numerals.{add-one}
-use lib.ListN.{length, getD, length-append, List·getD-append}
-use lib.Seq.{getD-append-add}
+use lib.ListN.{length, getD, take, length-append, List·getD-append}
+use lib.Seq.{getD-append-add, getD-take, length-take-le}
 use Rattle.btor2.specs.Op.{add, sub, mul, udiv, sdiv, urem, sll, srl, ult, Op, const, read, write, bin, uext, ite, eq, and, or, not, state, stateInit, next, input, bad, unknown}
 use Rattle.btor2.proofs.Sort.{sort-back}
 use Rattle.btor2_list.specs.declared.Line.{Line}
-use Rattle.btor2_list.specs.Record.{recordAt, holds, putAt}
+use Rattle.btor2_list.specs.Record.{recordAt, holds, putAt, capacity, wordsFor}
 use Rattle.btor2_list.specs.Node.{Node, node, lineOf, opOf, nodeOf}
 use Rattle.btor2_list.specs.View.{view}
-use Rattle.btor2_list.proofs.Stored.{LineFits, put-node, put-other}
+use Rattle.btor2_list.proofs.Stored.{LineFits, same-words, put-node, put-other}
 
 -- ---- a line that is written is read as itself
 
@@ -79,3 +79,19 @@ view-put ws n l there fits =
     let v = view-kept ws n l n (omega arith) in
     let d = put-node ws n l there fits in
     rw add-one (λ i. v i ++ (d i ∷ []))
+
+-- only the words in use count
+pub view-agree : (ws vs : List ℕ) (n : ℕ) → ((j : ℕ) → j < wordsFor n → getD ws j 0 ≡ getD vs j 0) → view ws n ≡ view vs n
+unfolding view
+view-agree ws vs zero h = refl
+view-agree ws vs (suc n) h =
+    ap₂ (λ (l : List Node) (m : Node). l ++ (m ∷ []))
+    (view-agree ws vs n (λ j l. h j (omega arith)))
+    (ap nodeOf (same-words ws vs n n (λ k l. h (wordsFor n + k) (omega arith))))
+
+-- cut to its first n lines, a list has these lines
+pub cut-view : (ws : List ℕ) (n : ℕ) → n ≤ capacity (length ws) → view (take (wordsFor n) ws) n ≡ view ws n
+cut-view ws n h = view-agree (take (wordsFor n) ws) ws n (λ j l. getD-take (wordsFor n) ws j 0 l)
+
+pub cut-capacity : (ws : List ℕ) (n : ℕ) → n ≤ capacity (length ws) → capacity (length (take (wordsFor n) ws)) ≡ n
+cut-capacity ws n h = rw (length-take-le (wordsFor n) ws (omega arith)) (omega arith)

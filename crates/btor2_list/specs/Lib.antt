@@ -7,3 +7,4 @@ pub mod Look
 pub mod Records
 pub mod NameBytes
 pub mod Operator
+pub mod Inside

@@ -1,9 +1,9 @@
 -- The lent words: records of four words, one after the other.
-use Prim.Native.Nat.{ℕ, _+_, _*_, _/_, _%_, _^_, _-_}
+use Prim.Native.Nat.{ℕ, _+_, _*_, _/_, _%_, _^_, _-_, min}
 use mathlib.Core.Bool.{Bool, cond, _||_}
 use mathlib.Core.List.{List, [], _∷_}
 use lib.Dec.{ltb, eqb}
-use lib.ListN.{length, getD}
+use lib.ListN.{length, getD, take}
 use lib.Seq.{sets}
 use Rattle.btor2_list.specs.Kinds.{constKind, stateKind, inputKind, badKind}
 use Rattle.btor2_list.specs.declared.Line.{Line}
@@ -106,3 +106,7 @@ getAt ws p = cond (holds ws p) (at (recordAt ws p)) Outside
 
 abbrev pub fieldAt : (Line → ℕ) → List ℕ → ℕ → ℕ
 fieldAt field ws p = cond (holds ws p) (field (recordAt ws p)) 0
+
+-- the words of the first n records, as far as there are any
+abbrev pub firstLines : List ℕ → ℕ → List ℕ
+firstLines ws n = take (wordsFor (min n (capacity (length ws)))) ws

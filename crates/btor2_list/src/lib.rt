@@ -16,15 +16,15 @@ pub use operator::LineOperator;
 pub use operator::operator_of;
 ghost use mathlib.Core.Path.{_≡_};
 ghost use mathlib.Core.Bool.{cond};
-ghost use Prim.Native.Nat.{_+_, _≤_, _<_};
+ghost use Prim.Native.Nat.{_+_, _≤_, _<_, min};
 ghost use lib.ListN.{length};
 ghost use lib.Seq.{sets};
-ghost use Rattle.btor2.specs.Op.{carried};
+ghost use Rattle.btor2.specs.Op.{carried, identifiers};
 ghost use Rattle.btor2_list.specs.declared.Line.{Line};
 ghost use Rattle.btor2_list.specs.Kinds.{uextKind};
-ghost use Rattle.btor2_list.specs.Record.{stride, capacity as capacityOf, saturated, headOf, hasName, words, recordAt, holds, putAt, getAt, fieldAt};
+ghost use Rattle.btor2_list.specs.Record.{stride, capacity as capacityOf, saturated, headOf, hasName, words, recordAt, holds, putAt, getAt, fieldAt, firstLines};
 ghost use Rattle.btor2_list.specs.Node.{opOf};
-ghost use Rattle.btor2_list.specs.Look.{lookAt};
+ghost use Rattle.btor2_list.specs.Look.{outside as noLine, lookAt};
 ghost use Rattle.btor2_list.specs.Limits.{linesOut, tallyOut};
 
 // The words of one record, for whoever lends storage, and where each stands in it. A Const's value stands in the first operand's place; a named
@@ -129,11 +129,11 @@ pub enum Found {
     Outside,
 }
 
-// What a place is to a line that names it: no line, a line with no value (Next, Bad, an unknown kind or sort), or a value of a sort.
-pub enum Looked {
-    Outside,
-    NoValue(Nid),
-    Value(Nid, NodeType),
+// What a place is to a line that names it: the identifier of the line there, 0 where there is none, and the sort of the value that it carries;
+// a place outside carries none, nor do Next, Bad and a line of unknown kind or sort.
+pub struct Looked {
+    pub nid: Nid,
+    pub sort: MaybeSort,
 }
 
 // How many records so many words hold.
@@ -273,17 +273,25 @@ pub fn look(list: &[u64], lines: usize, place: NodeRef) -> Looked
 {
     let p = place.0;
     if lines <= p {
-        return Looked::Outside;
+        return outside();
     }
     if list.len() / STRIDE <= p {
-        return Looked::Outside;
+        return outside();
     }
-    let at = p * STRIDE;
-    let head = list[at + AT_HEAD];
-    let nid = head / NID_UNIT;
-    match carries(head % BYTE, head / SORT_UNIT % BYTE) {
-        MaybeSort::Sort(s) => Looked::Value(Nid(nid), s),
-        MaybeSort::NoSort => Looked::NoValue(Nid(nid)),
+    let head = list[p * STRIDE + AT_HEAD];
+    let sort = carries(head % BYTE, head / SORT_UNIT % BYTE);
+    Looked {
+        nid: Nid(head / NID_UNIT),
+        sort,
+    }
+}
+
+fn outside() -> Looked
+    ensures { λ r. ⌜ r ≡ noLine ⌝ }
+{
+    Looked {
+        nid: Nid(0),
+        sort: MaybeSort::NoSort,
     }
 }
 
@@ -326,6 +334,36 @@ fn extended(from: u64) -> MaybeSort
         MaybeSort::Sort(_) => MaybeSort::Sort(NodeType::Word),
         MaybeSort::NoSort => MaybeSort::NoSort,
     }
+}
+
+// How many identifiers the line of a record takes: a State with an init two. One of unknown sort is no State.
+pub fn nids_taken(line: Line) -> u64
+    ensures { λ r. ⌜ r ≡ identifiers (opOf line) ⌝ }
+{
+    if line.kind != STATE {
+        return 1;
+    }
+    if line.imm == 0 {
+        return 1;
+    }
+    match sort_of(line.sort) {
+        MaybeSort::Sort(_) => 2,
+        MaybeSort::NoSort => 1,
+    }
+}
+
+// The words of the first `lines` records, or of all that the words hold where these are fewer.
+pub fn first_lines<'a>(list: &'a [u64], lines: usize) -> &'a [u64]
+    ensures { λ r. ⌜ now r ≡ firstLines (now (list .entry)) lines ⌝ }
+{
+    let end = least(lines, list.len() / STRIDE) * STRIDE;
+    &list[0..end]
+}
+
+fn least(a: usize, b: usize) -> usize
+    ensures { λ r. ⌜ r ≡ min a b ⌝ }
+{
+    if a < b { a } else { b }
 }
 
 // 9, of this many lines in these words.

@@ -30,10 +30,13 @@ use btor2::sort_of;
 ghost use mathlib.Core.Path.{_≡_};
 ghost use mathlib.Core.Bool.{cond, not};
 ghost use lib.Dec.{eqb};
+ghost use Rattle.btor2.specs.declared.MaybeSort.the-variants.{Sort};
+ghost use Rattle.btor2.specs.Sort.{sortNumbered};
 ghost use Rattle.btor2.specs.Op.{state as stateOp, stateInit};
 ghost use Rattle.btor2_list.specs.declared.Line.{Line};
 ghost use Rattle.btor2_list.specs.Node.{opOf};
 ghost use Rattle.btor2_list.specs.Operator.{opFrom};
+ghost use Rattle.btor2_list.specs.Inside.{sortedOp};
 
 // The operators on two words.
 pub enum Bin {
@@ -69,7 +72,7 @@ pub enum LineOperator {
     Unknown,
 }
 
-// What a record says.
+// What a record says. The kinds whose sort is fixed come first; of these the sort field is not looked at.
 pub fn operator_of(line: Line) -> LineOperator
     ensures { λ r. ⌜ opFrom r ≡ opOf line ⌝ }
 {
@@ -78,12 +81,7 @@ pub fn operator_of(line: Line) -> LineOperator
     let c = line.op3;
     let name = line.name;
     let kind = line.kind;
-    let sort = sort_of(line.sort);
     match kind {
-        CONST => match sort {
-            MaybeSort::Sort(s) => LineOperator::Const(s, line.imm),
-            MaybeSort::NoSort => LineOperator::Unknown,
-        },
         READ => LineOperator::Read(a, b),
         WRITE => LineOperator::Write(a, b, c),
         ADD => LineOperator::Binary(Bin::Add, a, b),
@@ -95,40 +93,40 @@ pub fn operator_of(line: Line) -> LineOperator
         SLL => LineOperator::Binary(Bin::Sll, a, b),
         SRL => LineOperator::Binary(Bin::Srl, a, b),
         ULT => LineOperator::Binary(Bin::Ult, a, b),
-        EXT => match sort {
-            MaybeSort::Sort(s) => LineOperator::Ext(s, a),
-            MaybeSort::NoSort => LineOperator::Unknown,
-        },
-        ITE => match sort {
-            MaybeSort::Sort(s) => LineOperator::Ite(s, a, b, c),
-            MaybeSort::NoSort => LineOperator::Unknown,
-        },
         EQ => LineOperator::Eq(a, b),
-        AND => match sort {
-            MaybeSort::Sort(s) => LineOperator::And(s, a, b),
-            MaybeSort::NoSort => LineOperator::Unknown,
-        },
-        OR => match sort {
-            MaybeSort::Sort(s) => LineOperator::Or(s, a, b),
-            MaybeSort::NoSort => LineOperator::Unknown,
-        },
-        NOT => match sort {
-            MaybeSort::Sort(s) => LineOperator::Not(s, a),
-            MaybeSort::NoSort => LineOperator::Unknown,
-        },
-        STATE => match sort {
-            MaybeSort::Sort(s) => state(s, line.imm, a, name),
-            MaybeSort::NoSort => LineOperator::Unknown,
-        },
-        NEXT => match sort {
-            MaybeSort::Sort(s) => LineOperator::Next(s, a, b),
-            MaybeSort::NoSort => LineOperator::Unknown,
-        },
-        INPUT => match sort {
-            MaybeSort::Sort(s) => LineOperator::Input(s, name),
-            MaybeSort::NoSort => LineOperator::Unknown,
-        },
         BAD => LineOperator::Bad(a, name),
+        _ => by_sort(line),
+    }
+}
+
+// One of the other kinds, which is none where its sort is unknown.
+fn by_sort(line: Line) -> LineOperator
+    ensures { λ r. ⌜ opFrom r ≡ sortedOp (sortNumbered (line .sort)) line ⌝ }
+{
+    match sort_of(line.sort) {
+        MaybeSort::Sort(s) => with_sort(line, s),
+        MaybeSort::NoSort => LineOperator::Unknown,
+    }
+}
+
+fn with_sort(line: Line, s: NodeType) -> LineOperator
+    ensures { λ r. ⌜ opFrom r ≡ sortedOp (Sort s) line ⌝ }
+{
+    let a = line.op1;
+    let b = line.op2;
+    let c = line.op3;
+    let name = line.name;
+    let kind = line.kind;
+    match kind {
+        CONST => LineOperator::Const(s, line.imm),
+        EXT => LineOperator::Ext(s, a),
+        ITE => LineOperator::Ite(s, a, b, c),
+        AND => LineOperator::And(s, a, b),
+        OR => LineOperator::Or(s, a, b),
+        NOT => LineOperator::Not(s, a),
+        STATE => state(s, line.imm, a, name),
+        NEXT => LineOperator::Next(s, a, b),
+        INPUT => LineOperator::Input(s, name),
         _ => LineOperator::Unknown,
     }
 }

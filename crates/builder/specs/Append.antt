@@ -2,12 +2,10 @@
 use Prim.Native.Nat.{ℕ, _+_, _%_, _^_}
 use mathlib.Core.List.{List}
 use mathlib.Core.Bool.{cond}
-use lib.Dec.{eqb}
-use Rattle.btor2.specs.Op.{Op}
+use Rattle.btor2.specs.Op.{Op, identifiers}
 use Rattle.btor2_list.specs.declared.Line.{Line}
 use Rattle.btor2_list.specs.Record.{holds, putAt}
-use Rattle.btor2_list.specs.Kinds.{stateKind}
-use Rattle.btor2_list.specs.Node.{lineOf}
+use Rattle.btor2_list.specs.Node.{lineOf, opOf}
 use Rattle.builder.specs.Prog.{Run, ran}
 use Rattle.builder.specs.declared.Made.{Made}
 use Rattle.builder.specs.declared.Tally.{Tally}
@@ -24,13 +22,9 @@ at ws t = record { words = ws; tally = t }
 abbrev pub made : List ℕ → Made → Run Store ℕ
 made ws r = ran (at ws (r .tally)) (r .node .0)
 
--- how many identifiers a record of this kind and constant takes: "a State with an init takes two identifiers"
-abbrev pub nidsTaken : ℕ → ℕ → ℕ
-nidsTaken kind imm = cond (eqb kind stateKind) (cond (eqb imm 0) 1 2) 1
-
 -- the tally after one more line
 abbrev pub counted : Tally → Line → Tally
-counted t l = record { lines = t .lines + 1; nid = (t .nid + nidsTaken (l .kind) (l .imm)) % 2 ^ 64 }
+counted t l = record { lines = t .lines + 1; nid = (t .nid + identifiers (opOf l)) % 2 ^ 64 }
 
 unfoldable pub appendLine : Store → Line → Run Store ℕ
 appendLine st l =

@@ -10,7 +10,7 @@ use btor2::Name;
 use btor2::Nid;
 use btor2::NodeRef;
 use btor2_list::Line;
-use btor2_list::STATE;
+use btor2_list::nids_taken;
 pub use lines::new_bad;
 pub use lines::new_const;
 pub use lines::new_ext;
@@ -27,7 +27,7 @@ pub use memory::new_write;
 ghost use mathlib.Core.Path.{_≡_};
 ghost use Rattle.btor2_list.specs.Node.{row};
 ghost use Rattle.builder.specs.Prog.{ran};
-ghost use Rattle.builder.specs.Append.{nidsTaken, appendLine, at, made};
+ghost use Rattle.builder.specs.Append.{appendLine, at, made};
 
 // The count of lines, and the next identifier.
 pub struct Tally {
@@ -39,19 +39,6 @@ pub struct Tally {
 pub struct Made {
     pub tally: Tally,
     pub node: NodeRef,
-}
-
-// How many identifiers a line takes: a State with an init two.
-fn taken_by(kind: u64, imm: u64) -> u64
-    ensures { λ r. ⌜ r ≡ nidsTaken kind imm ⌝ }
-{
-    if kind == STATE {
-        if imm == 0 {
-            return 1;
-        }
-        return 2;
-    }
-    1
 }
 
 // The work of the append, with the tally by value: a line of these fields under the next identifier.
@@ -70,7 +57,6 @@ fn append_line(
 {
     let lines = given.lines;
     let nid = given.nid;
-    let taken = taken_by(kind, imm);
     let line = Line {
         nid: Nid(nid),
         kind,
@@ -81,6 +67,7 @@ fn append_line(
         imm,
         name,
     };
+    let taken = nids_taken(line);
     if btor2_list::put(list, NodeRef(lines), line) {
         return Made {
             tally: Tally {

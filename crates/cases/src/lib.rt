@@ -1,7 +1,8 @@
-// What the tables of cases share: their numbers, their records of lines, and the states that their calls start from.
+// What the tables of cases share: their numbers, their records of lines, the states that their calls start from, and what their programs write.
 mod decimal;
 mod held;
 mod record;
+mod shown;
 
 pub use decimal::Decimal;
 pub use decimal::read_decimal;
@@ -10,3 +11,8 @@ pub use held::read_counts;
 pub use held::read_role;
 pub use record::Placed;
 pub use record::read_record;
+pub use shown::show;
+pub use shown::show_counts;
+pub use shown::show_lines;
+pub use shown::show_numbers;
+pub use shown::show_record;

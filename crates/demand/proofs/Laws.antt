@@ -25,7 +25,7 @@ use Rattle.demand.proofs.JoinStep.{roles-join}
 pub refused-leaves : RefusedLeaves
 unfolding answerTo
 refused-leaves h c q =
-    let e = when-refused (lentFor h c) (stateFor h c) (c .instruction) (c .address) (c .flag) (λ z. subst (λ t. T (not t)) (accepted-is h c ∙ eq-eqb (K.number (call h c)) 0 z) q) in
+    let e = when-refused (lentFor h c) (stateFor h c) (c .call .instruction) (c .call .address) (c .call .flag) (λ z. subst (λ t. T (not t)) (accepted-is h c ∙ eq-eqb (K.number (call h c)) 0 z) q) in
     (ap (λ (a : Answer). a .lent) e, ap (λ (a : Answer). a .lowered .state) e)
 
 -- an accepted call sets flows alone
@@ -40,7 +40,7 @@ pub node-step : (h : Held) (c : Call) (j : ℕ) → j < 39 → role (step h c .s
 unfolding answerTo stateFor
 node-step h (lower c) j l =
     by-step h c (λ b x. role (x .state .roles) j ≡ role (h .state .roles) j)
-    (λ q. node-lowering (lentFor h c) (stateFor h c) (c .instruction) (c .address) (c .flag) q j l)
+    (λ q. node-lowering (lentFor h c) (stateFor h c) (c .call .instruction) (c .call .address) (c .call .flag) q j l)
     refl
 node-step h (join c) j l = ap (λ rs. role rs j) (roles-join h c)
 

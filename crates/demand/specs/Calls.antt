@@ -6,11 +6,10 @@ use mathlib.Core.Bool.{Bool, cond}
 use mathlib.Core.List.{List, [], _∷_, _++_}
 use lib.Dec.{eqb}
 use lib.ListN.{length, take, drop}
-use Rattle.btor2.specs.declared.NodeRef.{NodeRef}
 use Rattle.btor2.specs.Op.{Op}
 use Rattle.btor2_list.specs.Record.{wordsFor}
-use Rattle.riscv.specs.declared.Instruction.{Instruction}
 use Rattle.state.specs.declared.State.{State}
+use Rattle.lowering.specs.declared.LowerCall.{LowerCall}
 use Rattle.lowering.specs.Lowering.{Lent, lent, Answer, lowering}
 use Rattle.meaning.specs.Lines.{operators}
 use Rattle.join.specs.declared.JoinHeld.{JoinHeld}
@@ -30,9 +29,7 @@ linesIn h = operators (h .list) (h .state .tally .lines)
 -- one lowering: the record, its address, the flag's place (one outside the list is an absent flag), and all that the host lends with it, of
 -- any length
 pub record Request : Type 0 where
-  pub instruction : Instruction
-  pub address : ℕ
-  pub flag : NodeRef
+  pub call : LowerCall
   -- the list and our name area, but for what is in use, which passes on
   pub list : List ℕ
   pub names : List ℕ
@@ -80,7 +77,7 @@ stateFor h c = record {
 }
 
 unfoldable pub answerTo : Held → Request → Answer
-answerTo h c = lowering (lentFor h c) (stateFor h c) (c .instruction) (c .address) (c .flag)
+answerTo h c = lowering (lentFor h c) (stateFor h c) (c .call .instruction) (c .call .address) (c .call .flag)
 
 -- the code's refusal is none
 unfoldable pub accepted : Held → Request → Bool

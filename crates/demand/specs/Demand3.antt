@@ -38,11 +38,11 @@ pub record AcceptedStart (h : Held) : Type 0 where
 -- "any records": an immediate is a word of 64 bits
 abbrev pub Records : List Call → Type 0
 Records [] = Unit {0}
-Records (lower c ∷ cs) = (c .instruction .imm < 2 ^ 64) × Records cs
+Records (lower c ∷ cs) = (c .call .instruction .imm < 2 ^ 64) × Records cs
 Records (join c ∷ cs) = Records cs
 
 abbrev pub kindOf : Request → Kind
-kindOf c = kindAt (c .instruction .kind)
+kindOf c = kindAt (c .call .instruction .kind)
 
 -- "all kinds but Mul, Mulw, Div and Divw": none of them is accepted
 abbrev pub NoneExcluded : Held → List Call → Type 0
@@ -68,10 +68,10 @@ module _ (env : Env) where
 -- "a flag is true at value 1, and one not needed isn't counted": the accepted calls that need a flag which is true, where the places of the
 -- list have the values v
 abbrev pub needsItsFlag : Request → Bool
-needsItsFlag c = needsFlag (kindOf c) (zerosOf (c .instruction))
+needsItsFlag c = needsFlag (kindOf c) (zerosOf (c .call .instruction))
 
 abbrev pub isTrue : (ℕ → Value) → Held → Request → Bool
-isTrue v h c = accepted h c && (needsItsFlag c && eqb (v (c .flag .0) .num) 1)
+isTrue v h c = accepted h c && (needsItsFlag c && eqb (v (c .call .flag .0) .num) 1)
 
 unfoldable pub trueCalls : (ℕ → Value) → Held → List Call → List Request
 trueCalls v h [] = []
@@ -97,11 +97,11 @@ memoryAfter (setsMemory bytes) node before a = cellsWith node bytes a
 -- what the manual says of a call, its operands being those of register nodes and of the memory node
 unfoldable pub effectOf : (ℕ → ℕ) → (ℕ → ℕ) → Request → Effect
 effectOf registers memory c =
-    let i = c .instruction in manual (i .imm) (c .address) (registers (i .rs1)) (registers (i .rs2)) (bytesOf memory) (kindOf c)
+    let i = c .call .instruction in manual (i .imm) (c .call .address) (registers (i .rs1)) (registers (i .rs2)) (bytesOf memory) (kindOf c)
 
 -- what is asked of a call whose flag is true: its load or store stays in one aligned 8-byte word
 abbrev pub AdmittedCall : (ℕ → ℕ) → Request → Type 0
-AdmittedCall registers c = let i = c .instruction in Admitted (kindOf c) (registers (i .rs1)) (registers (i .rs2)) (i .imm)
+AdmittedCall registers c = let i = c .call .instruction in Admitted (kindOf c) (registers (i .rs1)) (registers (i .rs2)) (i .imm)
 
 abbrev pub Each : (Request → Type 0) → List Request → Type 0
 Each asked [] = Unit {0}
@@ -118,7 +118,7 @@ module _ (env : Env) (start : Held) where
   abbrev pub registersBy : List Request → ℕ → ℕ
   registersBy [] r = registerFlowValue env start r
   registersBy (c ∷ cs) r =
-      registerAfter (effectOf (registerNodeValue env start) (memoryNodeValue env start) c) (c .instruction .rd) (registerFlowValue env start) r
+      registerAfter (effectOf (registerNodeValue env start) (memoryNodeValue env start) c) (c .call .instruction .rd) (registerFlowValue env start) r
 
   abbrev pub memoryBy : List Request → ℕ → ℕ
   memoryBy [] a = memoryFlowValue env start a

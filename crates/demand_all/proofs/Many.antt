@@ -10,7 +10,8 @@ use Rattle.btor2_list.specs.Record.{wordsFor}
 use Rattle.state.specs.declared.State.{State}
 use Rattle.lowering_refusals.specs.Refusal.{refusalOf}
 use Rattle.lowering.specs.Lowering.{Lent, lent, Answer, settled, roomIn, loweringGiven, lowering}
-use Rattle.lowering.specs.All.{LowerCall, AnswerAll, answerAll, loweringOn}
+use Rattle.lowering.specs.declared.LowerCall.{LowerCall}
+use Rattle.lowering.specs.All.{AnswerAll, answerAll, loweringOn}
 use Rattle.lowering_laws.proofs.OneCall.{when-refused}
 use Rattle.demand.specs.Calls.{Held, Call, lower, inFront, lentFor, stateFor, answerTo, accepted, step, run}
 use Rattle.demand_all.specs.Many.{held, request, requests, ManyAreRun}

@@ -8,7 +8,7 @@ use lib.ListN.{length, set}
 use Rattle.lowering.specs.Lowering.{Lent, lent}
 use Rattle.state.specs.Words.{edgesWord, dispatchesWord, badsWord, stateWords, stateIn}
 use Rattle.lowering.specs.Words.{Given, loweringWords}
-use Rattle.lowering.specs.All.{LowerCall}
+use Rattle.lowering.specs.declared.LowerCall.{LowerCall}
 use Rattle.join.specs.Refusal.{joinLent, JoinInput}
 use Rattle.join.specs.Words.{GivenJoin, joiningWords}
 use Rattle.demand.specs.Calls.{Held, Request, Join, Call, lower, join, run}
@@ -62,9 +62,7 @@ chain k (c ∷ cs) = chain (after k c) cs
 -- the same calls as demand 3's: each is lent what the one before it left
 abbrev pub requestFor : Kept → LowerLink → Request
 requestFor k c = record {
-  instruction = c .call .instruction;
-  address = c .call .address;
-  flag = c .call .flag;
+  call = c .call;
   list = k .list;
   names = k .names;
   edges = c .edges;

@@ -6,7 +6,8 @@ use mathlib.Core.List.{List, [], _∷_}
 use lib.Dec.{eqb}
 use Rattle.state.specs.declared.State.{State}
 use Rattle.lowering.specs.Lowering.{Lent, lowering}
-use Rattle.lowering.specs.All.{LowerCall, loweringOn}
+use Rattle.lowering.specs.declared.LowerCall.{LowerCall}
+use Rattle.lowering.specs.All.{loweringOn}
 use Rattle.demand.specs.Calls.{Held, Request, Call, lower, run}
 
 abbrev pub held : Lent → State → Held
@@ -14,9 +15,7 @@ held l st = record { list = l .list; names = l .names; state = st }
 
 abbrev pub request : Lent → State → LowerCall → Request
 request l st c = record {
-  instruction = c .instruction;
-  address = c .address;
-  flag = c .flag;
+  call = c;
   list = l .list;
   names = l .names;
   edges = l .edges;

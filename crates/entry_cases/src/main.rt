@@ -8,17 +8,17 @@
 // the counts; the roles; and the five records. tools/entry_cases.py made the commands and what is to be written.
 use btor2::NodeRef;
 use btor2_list::STRIDE;
-use builder::Tally;
 use cases::read_counts;
 use cases::read_decimal;
 use cases::read_role;
+use cases::show;
+use cases::show_counts;
 use edges::DISPATCH;
 use edges::InEdge;
 use libc::STDIN_FILENO;
 use libc::STDOUT_FILENO;
 use lowering::Lowered;
 use riscv::Instruction;
-use state::Counts;
 use state::ROLES;
 use state::State;
 ghost use Prim.Native.Nat.{_≤_};
@@ -289,16 +289,6 @@ fn show_names(names: &[u8], from: usize, to: usize) {
     io::write_all(STDOUT_FILENO, b"\n");
 }
 
-fn show_counts(tally: Tally, counts: Counts) {
-    io::write_all(STDOUT_FILENO, b"counts ");
-    show(tally.lines as u64, b" ");
-    show(tally.nid, b" ");
-    show(counts.names as u64, b" ");
-    show(counts.edges as u64, b" ");
-    show(counts.dispatches as u64, b" ");
-    show(counts.bads as u64, b"\n");
-}
-
 fn show_roles(roles: [NodeRef; ROLES]) {
     io::write_all(STDOUT_FILENO, b"roles");
     for role in 0..ROLES {
@@ -318,9 +308,4 @@ fn show_records(records: [InEdge; RECORDS]) {
         show(edge.origin, b" ");
         show(edge.condition.0 as u64, b"\n");
     }
-}
-
-fn show(n: u64, after: &[u8]) {
-    io::print_decimal(STDOUT_FILENO, n);
-    io::write_all(STDOUT_FILENO, after);
 }

@@ -1,9 +1,4 @@
 // The bench: what it answers. Its definition is specs/Evaluation; the code is evaluation_calls.
-mod given_records;
-
-pub use given_records::given;
-pub use given_records::given_cell;
-
 // A refusal's number; or a value, and the visits that it took.
 pub enum Evaluated {
     Refused(u64),

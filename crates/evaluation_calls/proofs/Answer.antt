@@ -16,15 +16,12 @@ use Rattle.btor2.specs.declared.MaybeSort.{MaybeSort}
 use Rattle.btor2.specs.declared.MaybeSort.the-variants.{Sort, NoSort}
 use Rattle.btor2.specs.Op.{unknown, carried}
 use Rattle.btor2.specs.SortRule.{hasSort}
-use Rattle.btor2_list.specs.declared.Looked.{Looked}
-use Rattle.btor2_list.specs.declared.Looked.the-variants.{Outside}
-use Rattle.btor2_list.specs.Record.{recordAt, capacity}
+use Rattle.btor2_list.specs.Record.{capacity}
 use Rattle.btor2_list.specs.View.{view}
-use Rattle.btor2_list.specs.Look.{seenAs, lookAt}
+use Rattle.btor2_list.specs.Look.{lookAt}
 use Rattle.list_check.specs.Lines.{ops, some}
 use Rattle.list_check.proofs.Formed.{op-at, ops-length}
 use Rattle.list_check.specs.Broken.{lineBroken, brokenWords}
-use Rattle.sort_check.proofs.Marks.{sortSeen}
 use Rattle.evaluation.specs.Given.{givenEnv}
 use Rattle.evaluation.specs.declared.Evaluated.{Evaluated}
 use Rattle.evaluation.specs.declared.Evaluated.the-variants.{Refused, Value}
@@ -32,12 +29,8 @@ use Rattle.evaluation.specs.Evaluation.{benchLines, unfitAsked, mostVisits, Loo
 use Rattle.evaluation_calls.specs.Inside.{saidAt, allOf, numFrom, Visitable}
 use Rattle.evaluation_calls.proofs.Walked.{kept}
 
-seen-sort : (nid : ℕ) (m : MaybeSort) → sortSeen (seenAs nid m) ≡ m
-seen-sort nid (Sort s) = refl
-seen-sort nid NoSort = refl
-
 -- a lookup in the list tells the sort of the line
-looked-sort : (ws : List ℕ) (n p : ℕ) → n ≤ capacity (length ws) → carried (getD (ops (view ws n)) p unknown) ≡ sortSeen (lookAt ws n p)
+looked-sort : (ws : List ℕ) (n p : ℕ) → n ≤ capacity (length ws) → carried (getD (ops (view ws n)) p unknown) ≡ lookAt ws n p .sort
 unfolding carried
 looked-sort ws n p room =
     by-le n p
@@ -46,7 +39,7 @@ looked-sort ws n p room =
     ap carried (List·getD-eq-default (ops (view ws n)) unknown past) ∙ rw (le-ltb p n h))
     (λ h.
     let there : p < capacity (length ws) = omega arith in
-    ap carried (op-at ws n p h) ∙ rw (lt-ltb p n h, lt-ltb p (capacity (length ws)) there) (sym (seen-sort (recordAt ws p .nid .0) (carried (saidAt ws p)))))
+    ap carried (op-at ws n p h) ∙ rw (lt-ltb p n h, lt-ltb p (capacity (length ws)) there))
 
 module _ (ws : List ℕ) (n : ℕ) (vs ms : List ℕ) (p : ℕ) where
   pub refused-unfit : unfit ws n p ≡ true → Refused unfitAsked ≡ evaluated ws n vs ms p
@@ -69,28 +62,28 @@ module _ (ws : List ℕ) (n : ℕ) (vs ms : List ℕ) (p : ℕ) where
   pub room : brokenWords ws n ≡ false → n ≤ capacity (length ws)
   room e = ltb-false (capacity (length ws)) n (neither (ltb (capacity (length ws)) n) (some n (lineBroken (ops (view ws n)))) e .0)
 
-  asked-for : (m : MaybeSort) → sortSeen (lookAt ws n p) ≡ m → n ≤ benchLines → brokenWords ws n ≡ false → unfit ws n p ≡ B.not (hasSort Bit m || hasSort Word m)
+  asked-for : (m : MaybeSort) → lookAt ws n p .sort ≡ m → n ≤ benchLines → brokenWords ws n ≡ false → unfit ws n p ≡ B.not (hasSort Bit m || hasSort Word m)
   unfolding unfit
   asked-for m s l b = rw (le-ltb benchLines n l, b, looked-sort ws n p (room b), s)
 
-  pub asked-other : (m : MaybeSort) → sortSeen (lookAt ws n p) ≡ m → n ≤ benchLines → brokenWords ws n ≡ false → (hasSort Bit m || hasSort Word m) ≡ false → unfit ws n p ≡ true
+  pub asked-other : (m : MaybeSort) → lookAt ws n p .sort ≡ m → n ≤ benchLines → brokenWords ws n ≡ false → (hasSort Bit m || hasSort Word m) ≡ false → unfit ws n p ≡ true
   asked-other m s l b h = asked-for m s l b ∙ ap B.not h
 
-  below : (m : MaybeSort) → sortSeen (lookAt ws n p) ≡ m → brokenWords ws n ≡ false → (hasSort Bit m || hasSort Word m) ≡ true → p < n
+  below : (m : MaybeSort) → lookAt ws n p .sort ≡ m → brokenWords ws n ≡ false → (hasSort Bit m || hasSort Word m) ≡ true → p < n
   below m s b h =
       by-le n p
       (λ l.
-      let z : sortSeen (lookAt ws n p) ≡ NoSort = rw (le-ltb p n l) in
+      let z : lookAt ws n p .sort ≡ NoSort = rw (le-ltb p n l) in
       absurd (true≢false (sym h ∙ ap (λ (x : MaybeSort). hasSort Bit x || hasSort Word x) (sym s ∙ z))))
       (λ l. l)
 
-  pub to-ask : (test : MaybeSort → Bool) (m : MaybeSort) → sortSeen (lookAt ws n p) ≡ m → brokenWords ws n ≡ false → (hasSort Bit m || hasSort Word m) ≡ true → test m ≡ true → Visitable test ws p
+  pub to-ask : (test : MaybeSort → Bool) (m : MaybeSort) → lookAt ws n p .sort ≡ m → brokenWords ws n ≡ false → (hasSort Bit m || hasSort Word m) ≡ true → test m ≡ true → Visitable test ws p
   to-ask test m s b h t =
       let l = below m s b h in
       let r = room b in
       record { held = omega arith; sort = ap test (sym (ap carried (op-at ws n p l)) ∙ looked-sort ws n p r ∙ s) ∙ t }
 
-  pub answered : (R : Evaluated) (m : MaybeSort) → sortSeen (lookAt ws n p) ≡ m → n ≤ benchLines → brokenWords ws n ≡ false → (hasSort Bit m || hasSort Word m) ≡ true
+  pub answered : (R : Evaluated) (m : MaybeSort) → lookAt ws n p .sort ≡ m → n ≤ benchLines → brokenWords ws n ≡ false → (hasSort Bit m || hasSort Word m) ≡ true
       → R ≡ numFrom ws vs ms p 0 → R ≡ evaluated ws n vs ms p
   unfolding evaluatedWithin numFrom looks
   answered R m s l b h e =

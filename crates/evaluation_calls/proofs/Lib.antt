@@ -1,3 +1,4 @@
+pub mod Records
 pub mod Walked
 pub mod Parts
 pub mod Entered

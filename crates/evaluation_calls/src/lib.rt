@@ -1,17 +1,18 @@
 // The bench: the value of a line on given values, with the visits that it takes.
+mod given_records;
 mod operators;
 
+use btor2::MaybeSort;
 use btor2::NodeRef;
 use btor2::NodeType;
 use btor2_list::Found;
 use btor2_list::LineOperator;
-use btor2_list::Looked;
 use btor2_list::get;
 use btor2_list::look;
 use btor2_list::operator_of;
 use evaluation::Evaluated;
-use evaluation::given;
-use evaluation::given_cell;
+use given_records::given;
+use given_records::given_cell;
 use list_check::broken;
 use operators::binary;
 use operators::bit_not;
@@ -61,10 +62,11 @@ pub fn evaluate(
     if broken(list, lines) {
         return Evaluated::Refused(UNFIT_ASKED);
     }
-    match look(list, lines, asked) {
-        Looked::Outside => Evaluated::Refused(UNFIT_ASKED),
-        Looked::NoValue(_) => Evaluated::Refused(UNFIT_ASKED),
-        Looked::Value(_, s) => match s {
+    let looked = look(list, lines, asked);
+    let sort = looked.sort;
+    match sort {
+        MaybeSort::NoSort => Evaluated::Refused(UNFIT_ASKED),
+        MaybeSort::Sort(s) => match s {
             NodeType::Bit => eval_bit(list, values, memory, asked, 0),
             NodeType::Word => eval_word(list, values, memory, asked, 0),
             _ => Evaluated::Refused(UNFIT_ASKED),

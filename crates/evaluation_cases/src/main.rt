@@ -11,6 +11,7 @@
 // Command 5 writes the value and the visits, or `refused` and the number. tools/evaluation_cases.py made the commands and what is to be written.
 use btor2::NodeRef;
 use cases::read_decimal;
+use cases::show;
 use evaluation::Evaluated;
 use evaluation_calls::evaluate;
 use libc::STDIN_FILENO;
@@ -220,7 +221,7 @@ fn run_ask(
     let of_memory = read_decimal(text, of_values.next);
     let lines = read_decimal(text, of_memory.next);
     let place = read_decimal(text, lines.next);
-    show(evaluate(
+    show_answer(evaluate(
         first_words(list, words.value),
         lines.value as usize,
         first_words(values, of_values.value),
@@ -242,20 +243,15 @@ fn first_words(s: &[u64], n: u64) -> &[u64] {
     &s[0..e]
 }
 
-fn show(answer: Evaluated) {
+fn show_answer(answer: Evaluated) {
     match answer {
         Evaluated::Refused(number) => {
             io::write_all(STDOUT_FILENO, b"refused ");
-            show_number(number, b"\n");
+            show(number, b"\n");
         }
         Evaluated::Value(value, visits) => {
-            show_number(value, b" ");
-            show_number(visits, b"\n");
+            show(value, b" ");
+            show(visits, b"\n");
         }
     }
-}
-
-fn show_number(n: u64, after: &[u8]) {
-    io::print_decimal(STDOUT_FILENO, n);
-    io::write_all(STDOUT_FILENO, after);
 }

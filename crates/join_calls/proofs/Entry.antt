@@ -12,7 +12,7 @@ use Rattle.btor2.specs.declared.NodeRef.{NodeRef}
 use Rattle.btor2_list.specs.Record.{holds, capacity}
 use Rattle.btor2_list.specs.Node.{nodeOf}
 use Rattle.btor2_list.specs.declared.Looked.{Looked}
-use Rattle.btor2_list.specs.declared.Looked.the-variants.{Outside}
+use Rattle.btor2_list.specs.Look.{outside}
 use Rattle.btor2_list.specs.Look.{lookAt}
 use Rattle.state.specs.Roles.{role, zeroBit}
 use Rattle.state.specs.RolesFit.{valueSort, rolesFit}
@@ -33,7 +33,7 @@ pub counts-by : (list ours places : List ℕ) (h : JoinHeld) (g : JoinInput) (na
 counts-by list ours places h g names sequentials e f = rw (e, f)
 
 -- a place that is a value line is below the count of lines
-below : (n p : ℕ) (s : ℕ) (x : Looked) (b c : Bool) → ltb p n ≡ b → eqb (valueSort (cond (b && c) x Outside)) (1 + s) ≡ true → p < n
+below : (n p : ℕ) (s : ℕ) (x : Looked) (b c : Bool) → ltb p n ≡ b → eqb (valueSort (cond (b && c) x outside)) (1 + s) ≡ true → p < n
 below n p s x true c e f = ltb-true p n e
 below n p s x false c e f = absurd (never f)
   where

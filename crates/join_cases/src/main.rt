@@ -18,14 +18,14 @@
 // use.
 // tools/join_cases.py made the commands and what is to be written.
 use btor2::NodeRef;
-use btor2_list::Found;
-use btor2_list::Line;
-use btor2_list::STATE;
 use builder::Tally;
 use cases::read_counts;
 use cases::read_decimal;
 use cases::read_record;
 use cases::read_role;
+use cases::show;
+use cases::show_lines;
+use cases::show_numbers;
 use edges::EDGE;
 use edges::InEdge;
 use join::Asked;
@@ -627,39 +627,6 @@ fn show_joined(
     show_left(list, names, sequentials, after, scratch);
 }
 
-fn show_lines(list: &[u64], names: &[u8], from: usize, to: usize) {
-    let mut place = from;
-    while place < to {
-        match btor2_list::get(list, NodeRef(place)) {
-            Found::Line(line) => show_line(names, line),
-            Found::Outside => {
-                io::write_all(STDOUT_FILENO, b"outside\n");
-            }
-        }
-        place += 1;
-    }
-}
-
-fn show_line(names: &[u8], line: Line) {
-    let numbers = [
-        line.nid.0,
-        line.kind,
-        line.sort,
-        line.op1.0 as u64,
-        line.op2.0 as u64,
-        line.op3.0 as u64,
-        line.imm,
-        line.name.area,
-        line.name.at,
-        line.name.len,
-    ];
-    show_numbers(&numbers);
-    if line.kind == STATE {
-        io::write_all(STDOUT_FILENO, btor2_list::name_bytes(b"", names, line.name));
-        io::write_all(STDOUT_FILENO, b"\n");
-    }
-}
-
 // The sequentials from one place up to another.
 fn show_listed(sequentials: &[u64], from: usize, to: usize) {
     io::write_all(STDOUT_FILENO, b"sequentials");
@@ -704,19 +671,6 @@ fn show_left(list: &[u64], names: &[u8], sequentials: &[u64], state: State, scra
     show_numbers(&numbers);
 }
 
-// Numbers on a line of their own.
-fn show_numbers(numbers: &[u64]) {
-    let mut at = 0;
-    while at < numbers.len() {
-        if 0 < at {
-            io::write_all(STDOUT_FILENO, b" ");
-        }
-        io::print_decimal(STDOUT_FILENO, numbers[at]);
-        at += 1;
-    }
-    io::write_all(STDOUT_FILENO, b"\n");
-}
-
 fn digest(words: &[u64]) -> u64 {
     let mut sum: u64 = 0;
     let mut at = 0;
@@ -756,9 +710,4 @@ fn five_times_and(sum: u64, word: u64) -> u64 {
 
 fn wide(byte: u8) -> u64 {
     byte as u64
-}
-
-fn show(n: u64, after: &[u8]) {
-    io::print_decimal(STDOUT_FILENO, n);
-    io::write_all(STDOUT_FILENO, after);
 }

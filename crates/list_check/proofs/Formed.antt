@@ -15,11 +15,10 @@ use Rattle.btor2.specs.Op.{Op, unknown, carried}
 use Rattle.btor2_list.specs.Record.{recordAt, capacity}
 use Rattle.btor2_list.specs.Node.{Node, node, opOf}
 use Rattle.btor2_list.specs.View.{view}
-use Rattle.btor2_list.specs.Look.{seenAs}
 use Rattle.btor2_list.proofs.View.{view-length, view-at}
 use Rattle.list_check.specs.Lines.{ops, opAt, some, any, pastWords}
 use Rattle.list_check.specs.Formed.{isUnknown, extFromMemory, operands, nameOf, nameOutside, hasValue, earlierValue, opUnformed, lineUnformed, unformed, unformedWords}
-use Rattle.list_check.specs.Operand.{noValue, noValueAt}
+use Rattle.list_check.specs.Operand.{noValueAt}
 use Rattle.list_check.proofs.Some.{some-same, some-none}
 
 -- what the record at place p says
@@ -36,17 +35,13 @@ op-at ws n p h = List·getD-map (λ (x : Node). x .op) (view ws n) p (node 0 unk
 pub ops-length : (ws : List ℕ) (n : ℕ) → length (ops (view ws n)) ≡ n
 ops-length ws n = length-map (view ws n) (λ (x : Node). x .op) ∙ view-length ws n
 
-pub seen-value : (nid : ℕ) (m : MaybeSort) → noValue (seenAs nid m) ≡ B.not (hasValue m)
-seen-value nid (Sort s) = refl
-seen-value nid NoSort = refl
-
 module _ (ws : List ℕ) (n : ℕ) (room : n ≤ capacity (length ws)) where
   -- the lookup from line p is the test of the definition
   pub looked : (p : ℕ) → p < n → (q : ℕ) → B.not (earlierValue (ops (view ws n)) p q) ≡ noValueAt ws p q
   looked p h q =
       by-le p q
       (λ l. rw (le-ltb q p l))
-      (λ l. let there : q < capacity (length ws) = omega arith in rw (lt-ltb q p l, lt-ltb _ _ there, op-at ws n q (omega arith)) (sym (seen-value (recordAt ws q .nid .0) (carried (said ws q)))))
+      (λ l. let there : q < capacity (length ws) = omega arith in rw (lt-ltb q p l, lt-ltb _ _ there, op-at ws n q (omega arith)))
 
   pub by-records : (host ours : ℕ) → unformed host ours (ops (view ws n)) ≡ some n (recordUnformed host ours ws)
   unfolding unformed

@@ -26,7 +26,7 @@ use Rattle.list_check.specs.Lines.{some, pastWords}
 use Rattle.list_check.specs.Operand.{noValueAt}
 use Rattle.list_check.specs.Scan.{outBefore, scanUnformed, nameLength, scanLine, checkedLine}
 use Rattle.list_check.proofs.Some.{some-none}
-use Rattle.list_check.proofs.Formed.{said, recordUnformed, seen-value, by-records, formed-line}
+use Rattle.list_check.proofs.Formed.{said, recordUnformed, by-records, formed-line}
 
 -- it carries a value unless it is unknown
 abbrev Valued : Op ℕ → Type 0
@@ -100,7 +100,7 @@ short ws i r q =
     (λ h.
     let there : q < capacity (length ws) = omega (arith, r .held) in
     let l = recordAt ws q in
-    rw (lt-ltb q i h, lt-leb i q h, lt-ltb _ _ there) (sym (seen-value (l .nid .0) (carried (opOf l)) ∙ by-kind l (r .known q h))))
+    rw (lt-ltb q i h, lt-leb i q h, lt-ltb _ _ there) (sym (by-kind l (r .known q h))))
 
 -- and its test of the line is the record's
 pub recorded : (ws : List ℕ) (i host ours : ℕ) → Reached ws i → opUnformed host ours (outBefore ws i) (said ws i) ≡ recordUnformed host ours ws i

@@ -47,7 +47,7 @@ ghost use mathlib.Core.List.{[], _∷_};
 ghost use Prim.Native.Nat.{ℕ, _+_};
 ghost use Rattle.btor2.specs.Sort.{sortNumbered};
 ghost use Rattle.btor2_list.specs.Kinds.{uextKind};
-ghost use Rattle.btor2_list.specs.Record.{hasName};
+ghost use Rattle.btor2_list.specs.Record.{hasName, recordAt, holds};
 ghost use Rattle.btor2_list.specs.Node.{opOf};
 ghost use Rattle.list_check.specs.declared.Checked.the-variants.{Unformed};
 ghost use Rattle.list_check.specs.Lines.{any};
@@ -96,20 +96,35 @@ pub fn check_line(list: &[u64], i: usize, host: usize, ours: usize) -> Checked
     ensures is { λ r. ⌜ r ≡ scanLine (now (list .entry)) i host ours ⌝ }
     ensures eleven { λ r. ⌜ (unformedWords (now (list .entry)) i host ours ≡ false → r ≡ checkedLine (now (list .entry)) i host ours) ⌝ }
 {
+    if plain_at(list, i) {
+        return Checked::Unnamed;
+    }
+    check_by_kind(list, i, host, ours)
+}
+
+// In a long list the jump of a match on the kind is guessed wrongly for most lines, so that a test which nearly all of them pass stands in
+// front of it. That reads the record by itself, so that for these lines no record is stored for a call.
+fn plain_at(list: &[u64], i: usize) -> bool
+    ensures { λ r. ⌜ (r ≡ true → (holds (now (list .entry)) i ≡ true) × (hasName (recordAt (now (list .entry)) i .kind) ≡ false) × ((host ours : ℕ) → opUnformed host ours (outBefore (now (list .entry)) i) (opOf (recordAt (now (list .entry)) i)) ≡ false)) ⌝ }
+{
+    match get(list, NodeRef(i)) {
+        Found::Line(line) => plainly_formed(list, i, line),
+        Found::Outside => false,
+    }
+}
+
+fn check_by_kind(list: &[u64], i: usize, host: usize, ours: usize) -> Checked
+    ensures { λ r. ⌜ r ≡ scanLine (now (list .entry)) i host ours ⌝ }
+{
     match get(list, NodeRef(i)) {
         Found::Line(line) => check_record(list, i, line, host, ours),
         Found::Outside => Checked::Unformed,
     }
 }
 
-// In a long list the jump of a match on the kind is guessed wrongly for most lines, so that a test which nearly all of them pass stands in
-// front of it.
 fn check_record(list: &[u64], i: usize, line: Line, host: usize, ours: usize) -> Checked
     ensures { λ r. ⌜ r ≡ cond (opUnformed host ours (outBefore (now (list .entry)) i) (opOf line)) Unformed (nameLength line) ⌝ }
 {
-    if plainly_formed(list, i, line) {
-        return Checked::Unnamed;
-    }
     if unformed_by_kind(list, i, line, host, ours) {
         return Checked::Unformed;
     }

@@ -1,8 +1,8 @@
 // Refusal 19's check over a whole list of lines: kinds, sorts and operands.
+use btor2::MaybeSort;
 use btor2::NodeRef;
 use btor2_list::Found;
 use btor2_list::LineOperator;
-use btor2_list::Looked;
 use btor2_list::capacity;
 use btor2_list::get;
 use btor2_list::look;
@@ -85,9 +85,10 @@ fn two_out(list: &[u64], i: usize, a: NodeRef, b: NodeRef) -> bool
 fn one_out(list: &[u64], i: usize, q: NodeRef) -> bool
     ensures { λ r. ⌜ r ≡ noValueAt (now (list .entry)) i (q .0) ⌝ }
 {
-    match look(list, i, q) {
-        Looked::Outside => true,
-        Looked::NoValue(_) => true,
-        Looked::Value(_, _) => false,
+    let looked = look(list, i, q);
+    let sort = looked.sort;
+    match sort {
+        MaybeSort::Sort(_) => false,
+        MaybeSort::NoSort => true,
     }
 }

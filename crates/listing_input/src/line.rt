@@ -259,7 +259,7 @@ fn kind_code(name: &[u8]) -> u64
     let w = pack(name);
     let mut k: u64 = 0;
     while k < KINDS {
-        if riscv::name_of(k) == w {
+        if riscv_rows::name_of(k) == w {
             return k;
         }
         k += 1;

@@ -17,7 +17,7 @@ use Rattle.btor2_list.specs.View.{view}
 use Rattle.btor2_list.specs.Look.{seen, lookAt}
 use Rattle.btor2_list.proofs.Seen.{look-line, look-past}
 use Rattle.state.specs.RolesFit.{valueSort, roleSort, rolesFit}
-use Rattle.demand.proofs.Views.{view-agree}
+use Rattle.btor2_list.proofs.View.{view-agree}
 
 module _ (front rest : List ℕ) where
   pub view-front : (n : ℕ) → wordsFor n ≤ length front → view (front ++ rest) n ≡ view front n

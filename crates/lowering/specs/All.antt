@@ -4,10 +4,9 @@ use mathlib.Core.Bool.{cond, true, false}
 use mathlib.Core.List.{List, [], _∷_}
 use lib.Dec.{eqb, ltb}
 use lib.ListN.{length, getD}
-use Rattle.btor2.specs.declared.NodeRef.{NodeRef}
 use Rattle.btor2_list.specs.Records.{recordsIn}
-use Rattle.riscv.specs.declared.Instruction.{Instruction}
 use Rattle.state.specs.declared.State.{State}
+use Rattle.lowering.specs.declared.LowerCall.{LowerCall}
 use Rattle.lowering.specs.Lowering.{Lent, lowering}
 use Rattle.state.specs.Words.{stateWords, stateIn, withState}
 
@@ -15,11 +14,6 @@ use Rattle.state.specs.Words.{stateWords, stateIn, withState}
 
 abbrev pub callWords : ℕ
 callWords = 7
-
-pub record LowerCall : Type 0 where
-  pub instruction : Instruction
-  pub address : ℕ
-  pub flag : NodeRef
 
 abbrev pub callIn : List ℕ → LowerCall
 callIn ws = record {

@@ -5,7 +5,7 @@ use models::Modeled;
 use riscv::Class;
 use riscv::Instruction;
 use riscv::Zeros;
-use riscv::has_bad;
+use riscv_rows::has_bad;
 use state::Reads;
 ghost use mathlib.Core.Path.{_≡_};
 ghost use Rattle.btor2_list.specs.Node.{noName};
@@ -29,7 +29,7 @@ pub fn lower_lines(
     let flows = e.flows;
     let register = e.register;
     let memory = e.memory;
-    let imm = riscv::constant_of(i.kind, i.imm, address);
+    let imm = riscv_rows::constant_of(i.kind, i.imm, address);
     translate::translate_lines(
         list,
         t,

@@ -14,7 +14,8 @@ use Rattle.lowering_refusals.specs.Refusal.{refusalOf}
 use Rattle.lowering.specs.Lowering.{Lent, Answer, roomIn, lowering}
 use Rattle.state.specs.Words.{stateWords, rolesIn, stateIn, withState}
 use Rattle.lowering.specs.Words.{Given, givenBy}
-use Rattle.lowering.specs.All.{LowerCall, callWords, callsIn, AnswerAll, answerAll, loweringOn, loweringAll, GivenAll, givenAll, allBy}
+use Rattle.lowering.specs.declared.LowerCall.{LowerCall}
+use Rattle.lowering.specs.All.{callWords, callsIn, AnswerAll, answerAll, loweringOn, loweringAll, GivenAll, givenAll, allBy}
 use Rattle.state.proofs.Words.{size-in, state-kept, put-again, put-length}
 use Rattle.lowering.proofs.Words.{read-back}
 use Rattle.roles_kept.proofs.Passed.{roles-in}

@@ -10,7 +10,8 @@ use lib.ListN.{length, drop}
 use Rattle.btor2_list.proofs.Records.{records-none}
 use Rattle.lowering.specs.Lowering.{Lent}
 use Rattle.lowering.specs.Words.{Given}
-use Rattle.lowering.specs.All.{LowerCall, callWords, callIn, callsIn, GivenAll, givenAll}
+use Rattle.lowering.specs.declared.LowerCall.{LowerCall}
+use Rattle.lowering.specs.All.{callWords, callIn, callsIn, GivenAll, givenAll}
 use Rattle.lowering_calls.specs.Known.{knownWords, wordsOn, wordsAll}
 
 -- at the start

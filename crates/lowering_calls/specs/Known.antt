@@ -9,7 +9,8 @@ use Rattle.riscv.specs.declared.Instruction.{Instruction}
 use Rattle.lowering.specs.Lowering.{Lent, loweringGiven}
 use Rattle.state.specs.Words.{stateWords, stateIn}
 use Rattle.lowering.specs.Words.{Given, given, givenBy}
-use Rattle.lowering.specs.All.{LowerCall, callWords, callsIn, GivenAll, givenAll}
+use Rattle.lowering.specs.declared.LowerCall.{LowerCall}
+use Rattle.lowering.specs.All.{callWords, callsIn, GivenAll, givenAll}
 
 -- ---- one call, and many, where it is known whether the roles fit
 

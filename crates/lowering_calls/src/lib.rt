@@ -5,6 +5,7 @@ mod apart;
 use apart::Apart;
 use apart::lower_apart;
 use btor2::NodeRef;
+use lowering::LowerCall;
 use lowering::Lowered;
 use riscv::Instruction;
 use state::BAD_COUNT;
@@ -32,13 +33,6 @@ pub const NO_FLAG: NodeRef = NodeRef(0xffff_ffff_ffff_ffff);
 pub struct Stopped {
     pub done: usize,
     pub refusal: u64,
-}
-
-// An instruction at an address under a flag, as one of many calls has it.
-struct LoweringCall {
-    instruction: Instruction,
-    address: u64,
-    flag: NodeRef,
 }
 
 // Lowers an instruction at an address under a flag. `state` says how much of each lent list is in use, the next identifier and the roles.
@@ -233,14 +227,12 @@ fn lower_rest(
 }
 
 // The call after `done` others.
-fn call_at(calls: &[u64], done: usize) -> LoweringCall
+fn call_at(calls: &[u64], done: usize) -> LowerCall
     requires { ⌜ done * callWords + callWords ≤ length (now calls) ⌝ }
-    ensures instruction { λ r. ⌜ r .instruction ≡ callIn (drop (done * callWords) (now (calls .entry))) .instruction ⌝ }
-    ensures address { λ r. ⌜ r .address ≡ callIn (drop (done * callWords) (now (calls .entry))) .address ⌝ }
-    ensures flag { λ r. ⌜ r .flag ≡ callIn (drop (done * callWords) (now (calls .entry))) .flag ⌝ }
+    ensures { λ r. ⌜ r ≡ callIn (drop (done * callWords) (now (calls .entry))) ⌝ }
 {
     let from = done * CALL;
-    LoweringCall {
+    LowerCall {
         instruction: Instruction {
             kind: calls[from + 1],
             rd: calls[from + 2],

@@ -9,15 +9,14 @@
 // the counts, and the places of the 40 flows; or its refusal. Places are those of the list: on the listing's start identifier 20 stands at 0.
 // tools/lowering_cases.py made the commands and what is to be written.
 use btor2::NodeRef;
-use btor2_list::BAD;
-use btor2_list::Found;
-use btor2_list::Line;
-use builder::Tally;
 use cases::Step;
 use cases::read_counts;
 use cases::read_decimal;
 use cases::read_record;
 use cases::read_role;
+use cases::show;
+use cases::show_counts;
+use cases::show_lines;
 use libc::STDIN_FILENO;
 use libc::STDOUT_FILENO;
 use riscv::Instruction;
@@ -199,36 +198,6 @@ fn show_lowered(
     show_flows(roles);
 }
 
-fn show_lines(list: &[u64], names: &[u8], from: usize, to: usize) {
-    let mut place = from;
-    while place < to {
-        match btor2_list::get(list, NodeRef(place)) {
-            Found::Line(line) => show_line(names, line),
-            Found::Outside => {
-                io::write_all(STDOUT_FILENO, b"outside\n");
-            }
-        }
-        place += 1;
-    }
-}
-
-fn show_line(names: &[u8], line: Line) {
-    show(line.nid.0, b" ");
-    show(line.kind, b" ");
-    show(line.sort, b" ");
-    show(line.op1.0 as u64, b" ");
-    show(line.op2.0 as u64, b" ");
-    show(line.op3.0 as u64, b" ");
-    show(line.imm, b" ");
-    show(line.name.area, b" ");
-    show(line.name.at, b" ");
-    show(line.name.len, b"\n");
-    if line.kind == BAD {
-        io::write_all(STDOUT_FILENO, btor2_list::name_bytes(b"", names, line.name));
-        io::write_all(STDOUT_FILENO, b"\n");
-    }
-}
-
 fn show_edges(edges: &[u64], from: usize, to: usize) {
     let mut at = from;
     while at < to {
@@ -278,16 +247,6 @@ fn show_bads(bads: &[u64], from: usize, to: usize) {
     }
 }
 
-fn show_counts(tally: Tally, counts: Counts) {
-    io::write_all(STDOUT_FILENO, b"counts ");
-    show(tally.lines as u64, b" ");
-    show(tally.nid, b" ");
-    show(counts.names as u64, b" ");
-    show(counts.edges as u64, b" ");
-    show(counts.dispatches as u64, b" ");
-    show(counts.bads as u64, b"\n");
-}
-
 fn show_flows(roles: [NodeRef; ROLES]) {
     io::write_all(STDOUT_FILENO, b"flows");
     for role in FIRST_FLOW..ROLES {
@@ -296,9 +255,4 @@ fn show_flows(roles: [NodeRef; ROLES]) {
         io::print_decimal(STDOUT_FILENO, place.0 as u64);
     }
     io::write_all(STDOUT_FILENO, b"\n");
-}
-
-fn show(n: u64, after: &[u8]) {
-    io::print_decimal(STDOUT_FILENO, n);
-    io::write_all(STDOUT_FILENO, after);
 }

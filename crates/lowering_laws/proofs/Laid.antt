@@ -8,17 +8,16 @@ use native.Mathlib.Omega.{arith}
 use native.Mathlib.Nat.{mod-eq-of-lt}
 use borrow.Author.Tests.{lt-ltb}
 use lib.ListN.{length, getD}
-use Rattle.btor2.specs.Op as O
-use Rattle.btor2.specs.Op.{Op, Bin, hasInit, identifiers}
+use Rattle.btor2.specs.Op.{Op, hasInit, identifiers}
 use Rattle.btor2_list.specs.Record.{holds, putAt, capacity, wordsFor}
-use Rattle.btor2_list.specs.Node.{Node, node, binKind, lineOf}
+use Rattle.btor2_list.specs.Node.{Node, node, lineOf}
 use Rattle.btor2_list.specs.View.{view}
 use Rattle.btor2_list.proofs.Stored.{put-length, put-elsewhere-below, put-elsewhere-above}
 use Rattle.btor2_list.proofs.View.{node-back, view-put}
 use Rattle.btor2_list.proofs.Fitting.{areaFits, line-fits}
 use Rattle.builder.specs.Prog.{Prog, done, line, Run, ran, exec}
 use Rattle.builder.specs.declared.Tally.{Tally}
-use Rattle.builder.specs.Append.{Store, at, nidsTaken, appendLine, append}
+use Rattle.builder.specs.Append.{Store, at, appendLine, append}
 use Rattle.builder.specs.Lines.{linesOf, placeAfter}
 use Rattle.builder.proofs.Result.{resultOf}
 use Rattle.lowering_laws.specs.Lines.{taking, numbered}
@@ -28,37 +27,6 @@ use Rattle.lowering_laws.proofs.Growth.{fitting}
 pub record RoomForLines (ws : List ℕ) (t : Tally) (m d : ℕ) : Type 0 where
   pub lines : t .lines + m ≤ capacity (length ws)
   pub nids : t .nid + d < 2 ^ 32
-
--- ---- identifiers: the append counts by the record what the line takes
-
-taken-bin : (o : Bin) → nidsTaken (binKind o) 0 ≡ 1
-taken-bin O.add = refl
-taken-bin O.sub = refl
-taken-bin O.mul = refl
-taken-bin O.udiv = refl
-taken-bin O.sdiv = refl
-taken-bin O.urem = refl
-taken-bin O.sll = refl
-taken-bin O.srl = refl
-taken-bin O.ult = refl
-
-taken-line : (nid : ℕ) (o : Op ℕ) → nidsTaken (lineOf nid o .kind) (lineOf nid o .imm) ≡ identifiers o
-taken-line nid (O.const s n) = refl
-taken-line nid (O.read m a) = refl
-taken-line nid (O.write m a v) = refl
-taken-line nid (O.bin o a b) = taken-bin o
-taken-line nid (O.uext s a) = refl
-taken-line nid (O.ite s c a b) = refl
-taken-line nid (O.eq a b) = refl
-taken-line nid (O.and s a b) = refl
-taken-line nid (O.or s a b) = refl
-taken-line nid (O.not s a) = refl
-taken-line nid (O.state s m) = refl
-taken-line nid (O.stateInit s a m) = refl
-taken-line nid (O.next s a b) = refl
-taken-line nid (O.input s m) = refl
-taken-line nid (O.bad a m) = refl
-taken-line nid O.unknown = refl
 
 at-most-two : (b : Bool) → cond b 2 1 ≤ 2
 at-most-two true = omega arith
@@ -95,7 +63,7 @@ there ws t m d r = lt-ltb (t .lines) (capacity (length ws)) (omega (arith, r .li
 
 append-room : (ws : List ℕ) (t : Tally) (o : Op ℕ) (m d : ℕ) → RoomForLines ws t (suc m) (identifiers o + d) → append (at ws t) o ≡ ran (at (put ws t o) (next t o)) (t .lines)
 unfolding appendLine
-append-room ws t o m d r = rw (there ws t m _ r, taken-line (t .nid) o, mod-eq-of-lt {n = t .nid + identifiers o} {m = 2 ^ 64} (omega (arith, r .nids)))
+append-room ws t o m d r = rw (there ws t m _ r, ap (λ (x : Node). identifiers (x .op)) (node-back (t .nid) o), mod-eq-of-lt {n = t .nid + identifiers o} {m = 2 ^ 64} (omega (arith, r .nids)))
 
 room-next : (ws : List ℕ) (t : Tally) (o : Op ℕ) (m d : ℕ) → RoomForLines ws t (suc m) (identifiers o + d) → RoomForLines (put ws t o) (next t o) m d
 room-next ws t o m d r = record {

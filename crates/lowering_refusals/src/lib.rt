@@ -6,12 +6,12 @@ use builder::Tally;
 use riscv::Class;
 use riscv::Instruction;
 use riscv::Zeros;
-use riscv::class_of;
-use riscv::has_bad;
-use riscv::has_dispatch;
-use riscv::line_count;
-use riscv::needs_flag;
-use riscv::zeros_of;
+use riscv_rows::class_of;
+use riscv_rows::has_bad;
+use riscv_rows::has_dispatch;
+use riscv_rows::line_count;
+use riscv_rows::needs_flag;
+use riscv_rows::zeros_of;
 use state::Counts;
 use state::Room;
 ghost use mathlib.Core.Path.{_≡_};
@@ -120,7 +120,7 @@ fn refuse_record(
     requires { ⌜ (needs ≡ needsAt i address) × (class ≡ classAt (kindAt (i .kind))) × (z ≡ zerosOf i) ⌝ }
     ensures { λ r. ⌜ r ≡ first (testsOfRecord (now (list .entry)) room t c i address (flag .0)) ⌝ }
 {
-    let number = riscv::check(i);
+    let number = riscv_rows::check(i);
     if number != 0 {
         return number;
     }

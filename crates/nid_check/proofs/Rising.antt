@@ -6,7 +6,7 @@ use mathlib.Core.List.{List, [], _∷_, _++_}
 use native.Mathlib.Numerals.{add-one}
 use native.Mathlib.Omega.{arith}
 use borrow.Author.Tests.{lt-ltb, le-ltb, le-leb, lt-leb}
-use lib.Dec.{leb, ltb}
+use lib.Dec.{leb, ltb, eqb}
 use lib.ListN.{length, drop, drop-of-length-le}
 use lib.Seq.{drop-cons}
 use Rattle.bitvec.proofs.Base.{by-le}
@@ -17,7 +17,7 @@ use Rattle.btor2_list.specs.View.{view}
 use Rattle.btor2_list.proofs.View.{view-length, view-at}
 use Rattle.list_check.specs.Lines.{any}
 use Rattle.nid_check.specs.declared.Rise.the-variants.{To, Out}
-use Rattle.nid_check.specs.Identifiers.{takenBy, taken, rising, reserved}
+use Rattle.nid_check.specs.Identifiers.{onwards, takenBy, taken, rising, reserved}
 use Rattle.nid_check.specs.Inside.{nidOut, riseOf}
 
 -- the identifiers after `last` break the rule
@@ -58,8 +58,8 @@ module _ (next last : ℕ) (x : Node) (us : List ℕ) where
   line-on t = go (nidOut next last (x .nid)) (hasInit (x .op)) (nidOut next (x .nid) (x .nid + 1)) refl refl
     where
       go : (a h b : Bool) → nidOut next last (x .nid) ≡ a → nidOut next (x .nid) (x .nid + 1) ≡ b
-          → cond a Out (cond h (cond b Out (To (x .nid + 1))) (To (x .nid))) ≡ To t
-          → outFrom next last (cond h (x .nid ∷ (x .nid + 1) ∷ []) (x .nid ∷ []) ++ us) ≡ outFrom next t us
+          → cond a Out (cond (eqb (cond h 2 1) 1) (To (x .nid)) (cond b Out (To (x .nid + 1)))) ≡ To t
+          → outFrom next last (onwards (x .nid) (cond h 2 1) ++ us) ≡ outFrom next t us
       go true h b e f r = let z : _≡_ {A = ℕ} 0 1 = cc in absurd (omega arith)
       go false true true e f r = let z : _≡_ {A = ℕ} 0 1 = cc in absurd (omega arith)
       go false true false e f r =
@@ -71,8 +71,8 @@ module _ (next last : ℕ) (x : Node) (us : List ℕ) where
   line-hit = go (nidOut next last (x .nid)) (hasInit (x .op)) (nidOut next (x .nid) (x .nid + 1)) refl refl
     where
       go : (a h b : Bool) → nidOut next last (x .nid) ≡ a → nidOut next (x .nid) (x .nid + 1) ≡ b
-          → cond a Out (cond h (cond b Out (To (x .nid + 1))) (To (x .nid))) ≡ Out
-          → outFrom next last (cond h (x .nid ∷ (x .nid + 1) ∷ []) (x .nid ∷ []) ++ us) ≡ true
+          → cond a Out (cond (eqb (cond h 2 1) 1) (To (x .nid)) (cond b Out (To (x .nid + 1)))) ≡ Out
+          → outFrom next last (onwards (x .nid) (cond h 2 1) ++ us) ≡ true
       go true true b e f r = nid-hit next last (x .nid) ((x .nid + 1) ∷ us) e
       go true false b e f r = nid-hit next last (x .nid) us e
       go false true true e f r = nid-on next last (x .nid) ((x .nid + 1) ∷ us) e ∙ nid-hit next (x .nid) (x .nid + 1) us f

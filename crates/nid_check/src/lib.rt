@@ -2,16 +2,14 @@
 use btor2::NodeRef;
 use btor2_list::Found;
 use btor2_list::Line;
-use btor2_list::LineOperator;
 use btor2_list::capacity;
 use btor2_list::get;
-use btor2_list::operator_of;
+use btor2_list::nids_taken;
 ghost use mathlib.Core.Path.{_≡_};
 ghost use mathlib.Core.Bool.{cond};
 ghost use Prim.Native.Nat.{_+_, _<_};
-ghost use Rattle.btor2.specs.Op.{hasInit};
 ghost use Rattle.btor2_list.specs.Record.{holds, recordAt};
-ghost use Rattle.btor2_list.specs.Node.{nodeOf, opOf};
+ghost use Rattle.btor2_list.specs.Node.{nodeOf};
 ghost use Rattle.nid_check.specs.declared.Rise.the-variants.{Out, To};
 ghost use Rattle.nid_check.specs.Identifiers.{reserved, nidsOutWords};
 ghost use Rattle.nid_check.specs.Inside.{nidOut, riseOf};
@@ -69,10 +67,10 @@ fn rise_of(line: Line, last: u64, next: u64) -> Rise
     if nid_out(nid, last, next) {
         return Rise::Out;
     }
-    if has_init(line) {
-        return rise_by_one(nid, next);
+    if nids_taken(line) == 1 {
+        return Rise::To(nid);
     }
-    Rise::To(nid)
+    rise_by_one(nid, next)
 }
 
 // The second identifier of a State with an init.
@@ -85,15 +83,6 @@ fn rise_by_one(nid: u64, next: u64) -> Rise
         return Rise::Out;
     }
     Rise::To(second)
-}
-
-fn has_init(line: Line) -> bool
-    ensures { λ r. ⌜ r ≡ hasInit (opOf line) ⌝ }
-{
-    match operator_of(line) {
-        LineOperator::StateInit(_, _, _) => true,
-        _ => false,
-    }
 }
 
 // Not above the last one taken, that of a sort, or not below the next one.

@@ -5,6 +5,7 @@
 // tools/print_cases.py made the commands and what is to be written; the text is what the unchanged Rust prints.
 use cases::read_decimal;
 use cases::read_record;
+use cases::show;
 use libc::STDIN_FILENO;
 use libc::STDOUT_FILENO;
 use print::Printed;
@@ -108,9 +109,4 @@ fn show_left(out: &[u8], from: usize) {
     }
     io::write_all(STDOUT_FILENO, b"left ");
     show(n, b"\n");
-}
-
-fn show(n: u64, after: &[u8]) {
-    io::print_decimal(STDOUT_FILENO, n);
-    io::write_all(STDOUT_FILENO, after);
 }

@@ -3,7 +3,6 @@ pub mod Format
 pub mod Zeros
 pub mod Class
 pub mod Name
-pub mod Coded
 pub mod Refusal
 pub mod Manual
 pub mod Memory

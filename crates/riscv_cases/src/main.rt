@@ -1,8 +1,8 @@
 // Runs the instruction check on the records of standard input, a line each: kind, rd, rs1, rs2 and imm. Writes each record with its
 // refusal, 0 where there is none. tools/riscv_cases.py made the records and what is to be written.
 use cases::read_decimal;
+use cases::show;
 use libc::STDIN_FILENO;
-use libc::STDOUT_FILENO;
 use riscv::Instruction;
 
 fn main() {
@@ -29,7 +29,7 @@ fn run_line(text: &[u8], at: usize) -> usize {
     let rs1 = read_decimal(text, rd.next);
     let rs2 = read_decimal(text, rs1.next);
     let imm = read_decimal(text, rs2.next);
-    show(Instruction {
+    show_instruction(Instruction {
         kind: kind.value,
         rd: rd.value,
         rs1: rs1.value,
@@ -39,16 +39,11 @@ fn run_line(text: &[u8], at: usize) -> usize {
     imm.next
 }
 
-fn show(i: Instruction) {
-    put(i.kind, b" ");
-    put(i.rd, b" ");
-    put(i.rs1, b" ");
-    put(i.rs2, b" ");
-    put(i.imm, b" ");
-    put(riscv::check(i), b"\n");
-}
-
-fn put(n: u64, after: &[u8]) {
-    io::print_decimal(STDOUT_FILENO, n);
-    io::write_all(STDOUT_FILENO, after);
+fn show_instruction(i: Instruction) {
+    show(i.kind, b" ");
+    show(i.rd, b" ");
+    show(i.rs1, b" ");
+    show(i.rs2, b" ");
+    show(i.imm, b" ");
+    show(riscv_rows::check(i), b"\n");
 }

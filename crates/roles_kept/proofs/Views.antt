@@ -10,14 +10,14 @@ use Rattle.btor2.specs.declared.NodeType.{NodeType}
 use Rattle.btor2.specs.declared.NodeType.the-variants.{Bit, Word, Memory, Input1Byte, Input2Byte, Input3Byte, Input4Byte, Input5Byte, Input6Byte, Input7Byte}
 use Rattle.btor2.specs.declared.MaybeSort.{MaybeSort}
 use Rattle.btor2.specs.declared.MaybeSort.the-variants.{Sort, NoSort}
-use Rattle.btor2.specs.Sort.{sortNumber}
+use Rattle.btor2.specs.Sort.{sortNumber, sortOrNone}
 use Rattle.btor2.specs.Op.{Op, unknown, carried, identifiers}
 use Rattle.btor2.specs.SortRule.{hasSort}
 use Rattle.btor2.proofs.LineIs.{lineIs}
 use Rattle.btor2_list.specs.Record.{wordsFor}
 use Rattle.btor2_list.specs.Node.{Node, node}
 use Rattle.btor2_list.specs.View.{view}
-use Rattle.btor2_list.specs.Look.{seenAs, lookAt}
+use Rattle.btor2_list.specs.Look.{lookAt}
 use Rattle.btor2_list.proofs.View.{view-length}
 use Rattle.btor2_list.proofs.Seen.{look-line, look-past}
 use Rattle.state.specs.RolesFit.{valueSort}
@@ -53,9 +53,9 @@ positive Input5Byte = lit< tt
 positive Input6Byte = lit< tt
 positive Input7Byte = lit< tt
 
-seen-is : (nid : ℕ) (m : MaybeSort) (s : NodeType) → valueSort (seenAs nid m) ≡ sortNumber s → T (hasSort s m)
-seen-is nid (Sort t) s e = subst (λ (k : ℕ). T (eqb (sortNumber s) k)) (sym e) (eqb-refl (sortNumber s))
-seen-is nid NoSort s e = absurd (omega (arith, positive s))
+seen-is : (m : MaybeSort) (s : NodeType) → sortOrNone m ≡ sortNumber s → T (hasSort s m)
+seen-is (Sort t) s e = subst (λ (k : ℕ). T (eqb (sortNumber s) k)) (sym e) (eqb-refl (sortNumber s))
+seen-is NoSort s e = absurd (omega (arith, positive s))
 
 pub look-is : (ws : List ℕ) (n : ℕ) → wordsFor n ≤ length ws → (p : ℕ) (s : NodeType) → valueSort (lookAt ws n p) ≡ sortNumber s → T (lineIs s (operators ws n) p)
 unfolding lineIs operators
@@ -64,16 +64,16 @@ look-is ws n room p s e =
     (λ h. absurd (omega (arith, positive s, sym (ap valueSort (look-past ws n room p h)) ∙ e)))
     (λ h.
     subst (λ (o : Op ℕ). T (hasSort s (carried o))) (sym (List·getD-map (λ (line : Node). line .op) (view ws n) p (node 0 unknown)))
-    (seen-is (getD (view ws n) p (node 0 unknown) .nid) (carried (getD (view ws n) p (node 0 unknown) .op)) s (sym (ap valueSort (look-line ws n room p (node 0 unknown) h)) ∙ e)))
+    (seen-is (carried (getD (view ws n) p (node 0 unknown) .op)) s (sym (ap valueSort (look-line ws n room p (node 0 unknown) h)) ∙ e)))
 
 -- and back
-is-seen : (nid : ℕ) (m : MaybeSort) (s : NodeType) → T (hasSort s m) → valueSort (seenAs nid m) ≡ sortNumber s
-is-seen nid (Sort t) s h = sym (eqb→eq (sortNumber s) (sortNumber t) h)
-is-seen nid NoSort s h = absurd h
+is-seen : (m : MaybeSort) (s : NodeType) → T (hasSort s m) → sortOrNone m ≡ sortNumber s
+is-seen (Sort t) s h = sym (eqb→eq (sortNumber s) (sortNumber t) h)
+is-seen NoSort s h = absurd h
 
 pub is-look : (ws : List ℕ) (n : ℕ) → wordsFor n ≤ length ws → (p : ℕ) (s : NodeType) → T (lineIs s (operators ws n) p) → valueSort (lookAt ws n p) ≡ sortNumber s
 unfolding lineIs operators
 is-look ws n room p s h =
     ap valueSort (look-line ws n room p (node 0 unknown) (rw (operators-length ws n) at (inside s (operators ws n) p h)))
-    ∙ is-seen (getD (view ws n) p (node 0 unknown) .nid) (carried (getD (view ws n) p (node 0 unknown) .op)) s
+    ∙ is-seen (carried (getD (view ws n) p (node 0 unknown) .op)) s
     (subst (λ (o : Op ℕ). T (hasSort s (carried o))) (List·getD-map (λ (line : Node). line .op) (view ws n) p (node 0 unknown)) h)

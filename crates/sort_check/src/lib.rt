@@ -6,7 +6,6 @@ use btor2::get_sort;
 use btor2_list::Found;
 use btor2_list::Line;
 use btor2_list::LineOperator;
-use btor2_list::Looked;
 use btor2_list::capacity;
 use btor2_list::get;
 use btor2_list::look;
@@ -194,11 +193,8 @@ pub fn same(s: NodeType, t: NodeType) -> bool
 fn value_at(list: &[u64], i: usize, place: NodeRef) -> MaybeSort
     ensures { λ r. ⌜ r ≡ markAt (now (list .entry)) i (place .0) .sort ⌝ }
 {
-    match look(list, i, place) {
-        Looked::Value(_, s) => MaybeSort::Sort(s),
-        Looked::NoValue(_) => MaybeSort::NoSort,
-        Looked::Outside => MaybeSort::NoSort,
-    }
+    let looked = look(list, i, place);
+    looked.sort
 }
 
 // The place names a State before line i.

@@ -7,16 +7,13 @@ use lib.ListN.{getD, replicate}
 use Rattle.btor2.specs.declared.NodeRef.{NodeRef}
 use Rattle.btor2.specs.declared.NodeType.{NodeType}
 use Rattle.btor2.specs.declared.NodeType.the-variants.{Bit, Word, Memory}
-use Rattle.btor2.specs.Sort.{sortNumber}
+use Rattle.btor2.specs.Sort.{sortNumber, sortOrNone}
 use Rattle.btor2_list.specs.declared.Looked.{Looked}
-use Rattle.btor2_list.specs.declared.Looked.the-variants.{Outside, NoValue, Value}
 use Rattle.btor2_list.specs.Look.{lookAt}
 
 -- the number of the sort of a value, 0 where there is none
 abbrev pub valueSort : Looked → ℕ
-valueSort Outside = 0
-valueSort (NoValue nid) = 0
-valueSort (Value nid s) = sortNumber s
+valueSort x = sortOrNone (x .sort)
 
 -- the sorts of the roles, in their order: "zero and one as Bit and as Word; 32 register nodes and 31 flows, all Word; memory and counter nodes
 -- and flows, Memory; counter maximum and its flow, division, remainder and access flows, Word; two overflow flows and the ecall flow, Bit"

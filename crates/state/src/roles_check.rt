@@ -6,12 +6,12 @@ use crate::roles::MEMORY;
 use crate::roles::MEMORY_FLOW;
 use crate::roles::ROLES;
 use crate::roles::ZERO_WORD;
+use btor2::MaybeSort;
 use btor2::NodeRef;
 use btor2::get_sort;
 use btor2_list::CONST;
 use btor2_list::Found;
 use btor2_list::ITE;
-use btor2_list::Looked;
 use btor2_list::STATE;
 use btor2_list::get;
 use btor2_list::look;
@@ -30,10 +30,11 @@ ghost use Rattle.state.specs.RolesFit.{valueSort, roleSort, rolesFit};
 pub fn value_sort(list: &[u64], lines: usize, place: NodeRef) -> u64
     ensures { λ r. ⌜ r ≡ valueSort (lookAt (now (list .entry)) lines (place .0)) ⌝ }
 {
-    match look(list, lines, place) {
-        Looked::Value(_, sort) => get_sort(sort),
-        Looked::NoValue(_) => 0,
-        Looked::Outside => 0,
+    let looked = look(list, lines, place);
+    let sort = looked.sort;
+    match sort {
+        MaybeSort::Sort(s) => get_sort(s),
+        MaybeSort::NoSort => 0,
     }
 }
 

@@ -11,33 +11,23 @@ use Rattle.btor2_list.proofs.look.Tie as tie
 
 returns : tie.Need-returns
 returns c =
-    let a = c .before .before .args in
+    let a = c .before .before .before .args in
     let past : a .lines ≤ a .place .0 = omega arith in
-    rw (le-ltb _ _ past)
+    rw (le-ltb _ _ past) (c .outside .ensures)
 
 returns-2 : tie.Need-returns-2
 returns-2 c =
-    let a = c .before .before .before .args in
+    let a = c .before .before .before .before .args in
     let listed : a .place .0 < a .lines = omega arith in
-    rw (lt-ltb _ _ listed, le-ltb _ _ (c .if2 .taken))
+    rw (lt-ltb _ _ listed, le-ltb _ _ (c .before .if2 .taken)) (c .outside2 .ensures)
 
 returns-3 : tie.Need-returns-3
 unfolding recordAt
 returns-3 c =
-    let k = c .before .before .before in
-    let e = k .before .before in
+    let e = c .before .before in
     let a = e .before .before .before .args in
     let listed : a .place .0 < a .lines = omega arith in
-    rw (lt-ltb _ _ listed, lt-ltb _ _ (e .if2 .left), ← k .carries .ensures (recordAt (now (a .list)) (a .place .0)) refl refl, c .before .s .given .1)
-
-returns-4 : tie.Need-returns-4
-unfolding recordAt
-returns-4 c =
-    let k = c .before .before in
-    let e = k .before .before in
-    let a = e .before .before .before .args in
-    let listed : a .place .0 < a .lines = omega arith in
-    rw (lt-ltb _ _ listed, lt-ltb _ _ (e .if2 .left), ← k .carries .ensures (recordAt (now (a .list)) (a .place .0)) refl refl, c .enum-told .given .1)
+    rw (lt-ltb _ _ listed, lt-ltb _ _ (e .if2 .left), ← c .carries .ensures (recordAt (now (a .list)) (a .place .0)) refl refl)
 
 pub look-spec : {M : Type 1} → statement M
-look-spec = tie.close (tie.spec returns returns-2 (λ c. search needs) (λ c. search needs) (λ c. search needs) (λ c. search needs) (λ c κs. search needs) (λ c. search needs) (λ c. search needs) returns-3 returns-4)
+look-spec = tie.close (tie.spec (λ c κs. search needs) returns (λ c κs. search needs) returns-2 (λ c. search needs) (λ c. search needs) (λ c. search needs) (λ c. search needs) (λ c κs. search needs) returns-3)

@@ -33,8 +33,8 @@ use Rattle.evaluation_calls.proofs.words.Reads as words
 use Rattle.evaluation_calls.proofs.words.Kinds as words-kinds
 use Rattle.evaluation_calls.proofs.+alike+bits+cell+eval_bit+eval_word+words.Lts-words as words-lts
 use Rattle.evaluation_calls.proofs.visit.Reads as visit-reads
-use Rattle.evaluation.proofs.given.Reads as given-reads
-use Rattle.evaluation.proofs.given_cell.Reads as given-cell-reads
+use Rattle.evaluation_calls.proofs.given_records.given.Reads as given-reads
+use Rattle.evaluation_calls.proofs.given_records.given_cell.Reads as given-cell-reads
 use Rattle.evaluation_calls.proofs.operators.binary.Reads as binary-reads
 use Rattle.evaluation_calls.proofs.operators.bit_not.Reads as bit-not-reads
 use Rattle.evaluation_calls.proofs.operators.conjunction.Reads as conjunction-reads

@@ -1,83 +1,24 @@
--- What is put, and the run from here on, are the whole run. Assumes nothing.
-use Prim.Native.Nat.{ℕ, _≤_}
-use mathlib.Core.Path.{_≡_, refl, sym, ap, _∙_}
-use mathlib.Core.List.{List, [], _++_, append-assoc, append-nil}
-use lib.ListN.{length}
+-- The list cut to its lines has the same lines. Assumes nothing.
+use mathlib.Core.Path.{ap, _∙_}
+use Prim.Native.Nat.{ℕ}
+use mathlib.Core.List.{List}
 use denote.Ref.{now}
-use native.Mathlib.Omega.{arith}
+use lib.ListN.{length}
 use Rattle.btor2_list.specs.Record.{capacity}
-use Rattle.text.specs.Put.{Put}
-use Rattle.text.proofs.Laws.{then, put-as, put-length}
-use Rattle.line_text.specs.Line.{nodes, nodeAt, nodeText, runText}
-use Rattle.line_text.proofs.Listed.{length-nodes}
-use Rattle.line_text.proofs.Runs.{run-past, run-none, run-on}
+use Rattle.btor2_list.specs.Node.{Node}
+use Rattle.text.proofs.Laws.{put-as}
+use Rattle.line_text.specs.Line.{nodes, runText}
+use Rattle.line_text.proofs.Listed.{cut-nodes}
 use borrow.Author.Needs.{needs}
 use Rattle.line_text.proofs.put_run.Statement.{statement}
 use Rattle.line_text.proofs.put_run.Tie as tie
 
-abbrev Inv-loop : tie.InvT-loop
-Inv-loop out₀ at list lines host ours from count held p₀ place₀ left₀ out p place left =
-    (s : List ℕ) × Put out₀ at s out p × (s ++ runText host ours (nodes list lines) place left ≡ runText host ours (nodes list lines) from count) × (held ≡ capacity (length list))
-
-abbrev μ-loop : tie.MeasureT-loop
-μ-loop out₀ at list lines host ours from count held p₀ place₀ left₀ out p place left = left
-
-loop-holds : tie.Need-loop-holds Inv-loop μ-loop
-loop-holds c = ([], record { list = refl; next = omega arith }, refl, c .capacity .ensures)
-
--- past the list's end there is nothing more to put
-ended : (l : tie.At-loop Inv-loop μ-loop) → let a = l .before .before .before .before .before .before .args in length (nodes (now (a .list)) (a .lines)) ≤ l .loop .place
-    → Put (now (a .out)) (a .at) (runText (now (a .host)) (now (a .ours)) (nodes (now (a .list)) (a .lines)) (a .from) (a .count)) (l .loop .out) (l .loop .p)
-ended l h =
-    let a = l .before .before .before .before .before .before .args in
-    let past = run-past (now (a .host)) (now (a .ours)) (nodes (now (a .list)) (a .lines)) (l .loop .place) (l .loop .left) h in
-    put-as (l .loop .inv .1) (sym (append-nil _) ∙ ap (λ (t : List ℕ). l .loop .inv .0 ++ t) (sym past) ∙ l .loop .inv .2)
-
-same-length : tie.Need-same-length Inv-loop μ-loop
-same-length c = put-length (c .before .before .loop .inv .1)
-
-returns : tie.Need-returns Inv-loop μ-loop
+returns : tie.Need-returns
 returns c =
-    let l = c .before .before in
-    let a = l .before .before .before .before .before .before .args in
-    ended l (omega (arith, length-nodes (now (a .list)) (a .lines) 0, c .if1 .taken))
-
-same-length-2 : tie.Need-same-length-2 Inv-loop μ-loop
-same-length-2 c = put-length (c .before .before .before .loop .inv .1)
-
-returns-2 : tie.Need-returns-2 Inv-loop μ-loop
-returns-2 c =
-    let l = c .before .before .before in
-    let a = l .before .before .before .before .before .before .args in
-    ended l (omega (arith, length-nodes (now (a .list)) (a .lines) 0, c .if2 .taken, l .loop .inv .3))
-
-loop-again : tie.Need-loop-again Inv-loop μ-loop
-loop-again c =
-    let q = c .before .before in
-    let l = q .before .before .before .before .before in
-    let a = l .before .before .before .before .before .before .args in
-    let ns = nodes (now (a .list)) (a .lines) in
-    let t = nodeText (now (a .host)) (now (a .ours)) ns (nodeAt ns (l .loop .place)) in
-    let on = run-on (now (a .host)) (now (a .ours)) ns (l .loop .place) (l .loop .left) (omega arith) in (
-      l .loop .inv .0 ++ t,
-      then (l .before .before .before .before .before .before .good .0 .0) (l .loop .inv .1) (q .put-line .ensures),
-      append-assoc (l .loop .inv .0) t _ ∙ ap (λ (r : List ℕ). l .loop .inv .0 ++ r) (sym on) ∙ l .loop .inv .2,
-      l .loop .inv .3,
-    )
-
-same-length-3 : tie.Need-same-length-3 Inv-loop μ-loop
-same-length-3 c = put-length (c .before .loop .inv .1)
-
-returns-3 : tie.Need-returns-3 Inv-loop μ-loop
-returns-3 c =
-    let l = c .before in
-    let a = l .before .before .before .before .before .before .args in
-    let ns = nodes (now (a .list)) (a .lines) in
-    let z : l .loop .left ≡ 0 = omega arith in
-    put-as (l .loop .inv .1)
-    (sym (append-nil _) ∙ ap (λ (r : List ℕ). l .loop .inv .0 ++ r) (sym (run-none (now (a .host)) (now (a .ours)) ns (l .loop .place) (l .loop .left) z)) ∙ l .loop .inv .2)
+    let f = c .before .before .before .before in
+    let a = f .before .before .before .before .before .args in
+    let same = ap (λ (ws : List ℕ). nodes ws (capacity (length ws))) (f .first-lines .ensures) ∙ cut-nodes (now (a .list)) (a .lines) in
+    put-as (c .before .before .put-lines .ensures) (ap (λ (ns : List Node). runText (now (a .host)) (now (a .ours)) ns (a .from) (a .count)) same)
 
 pub put-run-spec : {M : Type 1} → statement M
-put-run-spec =
-    tie.close
-    (tie.spec Inv-loop μ-loop (λ c κs. search needs) loop-holds same-length returns same-length-2 returns-2 (λ c κs. search needs) (λ c. search needs) (λ c. search needs) (λ c. search needs) loop-again same-length-3 returns-3)
+put-run-spec = tie.close (tie.spec (λ c κs. search needs) (λ c κs. search needs) (λ c. search needs) returns)

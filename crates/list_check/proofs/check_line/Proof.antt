@@ -1,11 +1,10 @@
--- The record that is found, or none; and that is 11 where the lines before are well formed. Assumes nothing.
-use mathlib.Core.Path.{_≡_, sym, _∙_}
+-- Plainly formed, or by its kind; and that is 11 where the lines before are well formed. Assumes nothing.
+use mathlib.Core.Path.{_≡_, _∙_}
 use mathlib.Core.Bool.{false}
 use denote.Ref.{now}
 use Rattle.list_check.specs.declared.Checked.{Checked}
 use Rattle.list_check.specs.Formed.{unformedWords}
 use Rattle.list_check.specs.Scan.{scanLine, checkedLine}
-use Rattle.btor2_list.proofs.Got.{found, not-found}
 use Rattle.list_check.proofs.Scan.{checked}
 use borrow.Author.Needs.{needs}
 use Rattle.list_check.proofs.check_line.Statement.{statement}
@@ -18,15 +17,12 @@ and-eleven c e = let a = c .args in (e, λ none. e ∙ checked (now (a .list)) (
 
 returns : tie.Need-returns
 returns c =
-    let g = c .before .before .before .before in
-    let s = g .before .before in
-    let there = found (now (s .args .list)) (s .args .i) _ (sym (g .get .ensures) ∙ c .before .before .line .given .1) in
-    and-eleven s (rw (there .0, there .1) (c .check-record .ensures))
+    let s = c .before .before .before in
+    let plain = c .before .plain-at .ensures (c .if1 .taken) in
+    and-eleven s (rw (plain .0, plain .2 (s .args .host) (s .args .ours), plain .1))
 
 returns-2 : tie.Need-returns-2
-returns-2 c =
-    let s = c .before .before .before .before in
-    and-eleven s (rw (not-found (now (s .args .list)) (s .args .i) (sym (c .before .before .get .ensures) ∙ c .enum-told .given .1)))
+returns-2 c = and-eleven (c .before .before .before .before) (c .check-by-kind .ensures)
 
 pub check-line-spec : {M : Type 1} → statement M
-check-line-spec = tie.close (tie.spec (λ c κs. search needs) (λ c. search needs) (λ c κs. search needs) (λ c. search needs) returns returns-2)
+check-line-spec = tie.close (tie.spec (λ c κs. search needs) returns (λ c κs. search needs) returns-2)

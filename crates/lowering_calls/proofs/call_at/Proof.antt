@@ -6,7 +6,7 @@ use Rattle.lowering_calls.proofs.call_at.Statement.{statement}
 use Rattle.lowering_calls.proofs.call_at.Tie as tie
 
 returns : tie.Need-returns
-returns c = (simp getD-drop, (simp (getD-drop, add-zero), simp getD-drop))
+returns c = simp (getD-drop, add-zero)
 
 pub call-at-spec : {M : Type 1} → statement M
 call-at-spec =

@@ -1,15 +1,16 @@
 -- What is left to do from here gives what all calls give. Assumes nothing.
 use Prim.Native.Nat.{_+_, _/_, _-_, _*_, _≤_}
-use mathlib.Core.Path.{_≡_, refl, sym, ap, _∙_}
+use mathlib.Core.Path.{_≡_, refl, sym, ap, subst, _∙_}
 use native.Mathlib.Omega.{arith}
 use borrow.Author.Needs.{needs}
 use denote.Ref.{now}
 use lib.ListN.{length, drop}
+use Rattle.lowering.specs.declared.LowerCall.{LowerCall}
 use Rattle.lowering.specs.Lowering.{lent}
 use Rattle.lowering.specs.Words.{given}
 use Rattle.btor2_list.proofs.Records.{records-next}
 use Rattle.lowering.specs.All.{callWords, callIn, callsIn}
-use Rattle.lowering_calls.specs.Known.{wordsOn, wordsAll}
+use Rattle.lowering_calls.specs.Known.{knownWords, wordsOn, wordsAll}
 use Rattle.lowering_calls.proofs.Steps.{from-none, ends, stops, goes-on}
 use Rattle.lowering_calls.proofs.lower_rest.Statement.{statement}
 use Rattle.lowering_calls.proofs.lower_rest.Tie as tie
@@ -45,7 +46,7 @@ returns c =
     let gave = given (call .lower-known .result) (lent (call .lower-known .last .0) (call .lower-known .last .1 .0) (call .lower-known .last .1 .1 .0) (call .lower-known .last .1 .1 .1 .0) (call .lower-known .last .1 .1 .1 .1 .0)) (call .lower-known .last .1 .1 .1 .1 .1 .0) in
     let next = callIn (drop (at .loop .done * 7) (now (a .calls))) in
     let left = callsIn (length (now (a .calls)) / 7 - (at .loop .done + 1)) (drop ((at .loop .done + 1) * 7) (now (a .calls))) in
-    stops (a .fits) here (at .loop .state) next gave (rw (← told .call-at .ensures .0, ← told .call-at .ensures .1 .0, ← told .call-at .ensures .1 .1) (call .lower-known .ensures)) (at .loop .done) left (c .if1 .taken)
+    stops (a .fits) here (at .loop .state) next gave (subst (λ (x : LowerCall). gave ≡ knownWords (a .fits) here (at .loop .state) (x .instruction) (x .address) (x .flag)) (told .call-at .ensures) (call .lower-known .ensures)) (at .loop .done) left (c .if1 .taken)
     ∙ ap (wordsOn (a .fits) (at .loop .done) here (at .loop .state)) (sym (records-next callWords callIn (length (now (a .calls)) / 7) (at .loop .done) (now (a .calls)) (omega arith)))
     ∙ at .loop .inv .3
 
@@ -68,7 +69,7 @@ loop-again c =
       (call .lower-known .kept .0 ∙ at .loop .inv .0 .0, call .lower-known .kept .1 .0 ∙ at .loop .inv .0 .1, call .lower-known .kept .1 .1 .0 ∙ at .loop .inv .0 .2, call .lower-known .kept .1 .1 .1 .0 ∙ at .loop .inv .0 .3, call .lower-known .kept .1 .1 .1 .1 .0 ∙ at .loop .inv .0 .4, call .lower-known .kept .1 .1 .1 .1 .1 .0 ∙ at .loop .inv .0 .5),
       omega arith,
       refl,
-      goes-on (a .fits) here (at .loop .state) next gave (rw (← told .call-at .ensures .0, ← told .call-at .ensures .1 .0, ← told .call-at .ensures .1 .1) (call .lower-known .ensures)) (at .loop .done) left (c .if1 .left)
+      goes-on (a .fits) here (at .loop .state) next gave (subst (λ (x : LowerCall). gave ≡ knownWords (a .fits) here (at .loop .state) (x .instruction) (x .address) (x .flag)) (told .call-at .ensures) (call .lower-known .ensures)) (at .loop .done) left (c .if1 .left)
           ∙ ap (wordsOn (a .fits) (at .loop .done) here (at .loop .state)) (sym (records-next callWords callIn (length (now (a .calls)) / 7) (at .loop .done) (now (a .calls)) (omega arith)))
           ∙ at .loop .inv .3,
     )

@@ -9,10 +9,7 @@ returns c = let k = c .before .before in rw (← k .look .ensures, c .enum-told 
 returns-2 : tie.Need-returns-2
 returns-2 c = let k = c .before .before in rw (← k .look .ensures, c .enum-told2 .given .1)
 
-returns-3 : tie.Need-returns-3
-returns-3 c = let k = c .before .before in rw (← k .look .ensures, c .enum-told3 .given .1)
-
 pub one-out-spec : {M : Type 1} → statement M
 one-out-spec =
     tie.close
-    (tie.spec (λ c κs. search needs) (λ c. search needs) (λ c. search needs) (λ c. search needs) returns returns-2 returns-3)
+    (tie.spec (λ c κs. search needs) (λ c. search needs) (λ c. search needs) returns returns-2)

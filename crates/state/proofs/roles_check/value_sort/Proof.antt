@@ -9,10 +9,5 @@ returns c = rw (← c .before .before .before .before .look .ensures, c .before 
 returns-2 : tie.Need-returns-2
 returns-2 c = rw (← c .before .before .look .ensures, c .enum-told .given .1)
 
-returns-3 : tie.Need-returns-3
-returns-3 c = rw (← c .before .before .look .ensures, c .enum-told2 .given .1)
-
 pub value-sort-spec : {M : Type 1} → statement M
-value-sort-spec =
-    tie.close
-    (tie.spec (λ c κs. search needs) (λ c. search needs) (λ c κs. search needs) (λ c. search needs) (λ c. search needs) returns returns-2 returns-3)
+value-sort-spec = tie.close (tie.spec (λ c κs. search needs) (λ c. search needs) (λ c κs. search needs) (λ c. search needs) returns returns-2)
