@@ -10,7 +10,7 @@ use Rattle.btor2_list.specs.declared.Line.{Line}
 use Rattle.btor2_list.specs.Kinds.{constKind}
 use Rattle.btor2_list.specs.Node.{operatorAt, withSort}
 
--- what a record says of the kinds that have a sort of their own, s; the others are unknown
+-- what a record says of the kinds that have a sort of their own, s; the others, the eleven from read to ult, and eq and bad, are unknown
 abbrev pub sortedByKind : MaybeSort → Line → List (Op ℕ)
 sortedByKind s l =
     let a = l .op1 .0 in

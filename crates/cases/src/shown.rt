@@ -42,7 +42,7 @@ pub fn show_record(line: Line) {
     show_numbers(&numbers);
 }
 
-// The lines of the list from one place up to another, each with its name after it, where it has one in our area.
+// The lines of the list from one place up to another, each with its name in our area after it, where lines of its kind have names.
 pub fn show_lines(list: &[u64], names: &[u8], from: usize, to: usize) {
     let mut place = from;
     while place < to {
