@@ -33,6 +33,7 @@ ALTERED = [
     ("an identifier", r"\n\d+( 14 1 )", r"\n9\1"),
     ("a State's name", r"kernel-mode-pc-flag-", r"kernel-mode-pc-flag"),
     ("a State's init", r"( 19 1 \d+ \d+ \d+) 1 ", r"\1 0 "),
+    ("an address", r"(\n\d+ 14 1 [^\n]*) 0 0\n", r"\1 1 0\n"),
     ("a sequential", r"sequentials (\d)", r"sequentials 1\1"),
     ("a sequential missing", r"sequentials \d+", r"sequentials"),
     ("a flow", r"flow (\d)", r"flow 1\1"),
@@ -120,7 +121,7 @@ def limit_tests(folder, kept):
     ):  # fmt: skip
         call = calls.desk.call(calls.given(flow, edges=edge))
         long = call.records + call.records[-1:] * (1_048_600 - len(call.records))
-        call = dataclasses.replace(call, lines=lines, records=long, list_words=4 * len(long))
+        call = dataclasses.replace(call, lines=lines, records=long, list_words=join_reading.RECORD * len(long))
         got, *_ = join_reading.answer(call)
         yield f"{lines} lines from {flow}", got == number, got
 

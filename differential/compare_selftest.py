@@ -75,8 +75,10 @@ def apart_alterations(right):
     roles = lowering_cases.apart().roles
     zero, x0 = roles[2], roles[7]
     yield "zero for x0", re.sub(rf"( 14 2 2) {x0} ", rf"\1 {zero} ", right, count=1)
-    yield "x0 for zero", re.sub(rf" {zero} (\d+ 0 \d+) {zero}\n", rf" {x0} \1 {x0}\n", right, count=1)
-    yield "x0 for zero, one field", re.sub(rf" {zero}\n", rf" {x0}\n", right, count=1)
+    yield "x0 for zero", re.sub(rf" {zero} (\d+ 0 \d+) {zero}( 1 \d+)\n", rf" {x0} \1 {x0}\2\n", right, count=1)
+    yield "x0 for zero, one field", re.sub(rf" {zero}( 1 \d+)\n", rf" {x0}\1\n", right, count=1)
+    yield "another address", re.sub(r" 1 4\n", r" 1 0\n", right, count=1)
+    yield "no address", re.sub(r" 1 0\n", r" 0 0\n", right, count=1)
     yield "a flow", re.sub(r"(flows \d+) ", r"\1 1", right, count=1)
     yield "a count", re.sub(r"counts (\d+)", r"counts 1\1", right, count=1)
     yield "an identifier", re.sub(r"\A\d+", "1", right)

@@ -4,8 +4,9 @@
     tools/btor2_cases.py stdin    crates/btor2_cases/stdin: a command to a line
     tools/btor2_cases.py stdout   crates/btor2_cases/stdout: the answers
 
-The answers are read off document 01 and unicorn's mod.rs below, and share nothing with the project's definitions and code.
+The answers are read off document 01, document 02 (R-3) and unicorn's mod.rs below, and share nothing with the project's definitions and code.
 """
+import itertools
 import sys
 
 KINDS = (
@@ -15,7 +16,10 @@ SORTS = (1, 2, 3, *range(11, 18))
 WORD_RESULT = {"Read", "Add", "Sub", "Mul", "Divu", "Div", "Rem", "Sll", "Srl"}
 NAMED = {"State", "Input", "Bad"}
 HOLDS = 4
+WORDS = 5  # of a record
 TOP = 2**64 - 1
+NO_ADDRESS = (0, 0)  # mark and address where there is none
+PLACES = (0, 0), (1, 1), (2, 1), (4, 3), (5, 4), (TOP, 4), (TOP, TOP)  # each after the count of lines that there are
 
 
 def carried(kind, sort):
@@ -36,9 +40,9 @@ def carried(kind, sort):
 
 def commands():
     """Pairs of a command and its answer."""
-    records = [[0] * 10 for _ in range(HOLDS)]
+    records = [[0] * 12 for _ in range(HOLDS)]
 
-    def put(place, *fields):
+    def put(place, *fields, mark=0, address=0):
         if place < HOLDS:
             nid, kind, sort, op1, op2, op3, imm, area, at, length = fields
             name = KINDS[kind - 1] if 1 <= kind <= len(KINDS) else None
@@ -47,8 +51,10 @@ def commands():
             first = imm if name == "Const" else op1
             others = [at, length] if name in NAMED else [op2, op3]
             last = (1 if imm else 0) if name == "State" else first
-            records[place] = [min(nid, 2**32 - 1), min(kind, 255), min(sort, 255), first, *others, last, min(area, 255), *others]
-        return (1, place, *fields), "put" if place < HOLDS else "outside"
+            # any mark but 0 says that there is an address, of which all 64 bits are kept; without one it is not looked at
+            said = (1, address) if mark else NO_ADDRESS
+            records[place] = [min(nid, 2**32 - 1), min(kind, 255), min(sort, 255), first, *others, last, min(area, 255), *others, *said]
+        return (1, place, *fields, mark, address), "put" if place < HOLDS else "outside"
 
     def get(place):
         return (2, place), " ".join(map(str, records[place])) if place < HOLDS else "outside"
@@ -64,10 +70,16 @@ def commands():
         text = {1: "host", 2: "own area"}.get(area, "")
         return (4, area, at, length), "[" + (text[at : at + length] if at + length <= len(text) else "") + "]"
 
+    def address_of(lines, place):
+        mark, address = records[place][-2:] if place < lines and place < HOLDS else NO_ADDRESS
+        return (5, lines, place), str(address) if mark else "no address"
+
     yield get(0)
     yield look(1, 0)
-    for place in (3, 0, 2, 4, 5, TOP // 4, TOP):  # the last one that fits, and past it; all words as large as can be
-        yield put(place, *(TOP - i for i in range(10)))
+    yield address_of(1, 0)
+    # the last one that fits, and past it, up to places whose words are counted past 2^64; all words as large as can be
+    for place in (3, 0, 2, 4, 5, TOP // 4, TOP, TOP // WORDS, TOP // WORDS + 1):
+        yield put(place, *(TOP - i for i in range(10)), mark=TOP - 10, address=TOP - 11)
         yield get(place)
         for other in range(HOLDS):
             yield get(other)
@@ -94,11 +106,39 @@ def commands():
         yield put(1, 55, 19, 2, 7, 8, 9, init, 1, 0, 4)
         yield get(1)
         yield look(2, 1)
-    for lines, place in ((0, 0), (1, 1), (2, 1), (4, 3), (5, 4), (TOP, 4), (TOP, TOP)):
+    for lines, place in PLACES:
         yield look(lines, place)
     for area in (0, 1, 2, 3, TOP):
         for at, length in ((0, 0), (0, 4), (1, 3), (1, 4), (4, 0), (4, 4), (5, 0), (0, 8), (0, 9), (8, 0), (9, 0), (TOP, 1), (1, TOP), (TOP, TOP)):
             yield name(area, at, length)
+    yield from with_addresses(put, get, look, address_of)
+
+
+def with_addresses(put, get, look, address_of):
+    for mark, address in itertools.product((0, 1, 2, 15, 16, TOP), (0, 1, 2**63, TOP)):
+        yield put(1, 55, 4, 2, 7, 8, 9, 6, 1, 0, 4, mark=mark, address=address)
+        yield get(1)
+        yield address_of(2, 1)
+    for init, mark in itertools.product((0, 1, 15, 16, TOP), (0, 1, TOP)):  # of a State's init and of an address: neither mark is the other
+        yield put(1, TOP, 19, 2, 7, 8, 9, init, TOP, 0, 4, mark=mark, address=TOP)
+        yield get(1)
+        yield address_of(2, 1)
+        yield look(2, 1)
+    for kind in (0, 1, 13, 19, 21, 22, TOP):  # all words but the last as large as can be, which is no address; then one of a line of zeros
+        yield put(2, TOP, kind, TOP, TOP, TOP, TOP, TOP, TOP, TOP, TOP)
+        yield get(2)
+        yield address_of(3, 2)
+        yield put(2, 0, kind, 0, 0, 0, 0, 0, 0, 0, 0, mark=1, address=TOP - 1)
+        yield get(2)
+        yield address_of(3, 2)
+    yield get(1)  # those beside it keep theirs
+    yield get(3)
+    for place in range(HOLDS):
+        yield put(place, *[0] * 10, mark=1, address=place)
+        yield address_of(place, place)
+        yield address_of(place + 1, place)
+    for lines, place in (*PLACES, (TOP, TOP // WORDS), (TOP, TOP // WORDS + 1)):
+        yield address_of(lines, place)
 
 
 if __name__ == "__main__":

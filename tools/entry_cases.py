@@ -18,6 +18,7 @@ from lowering_cases import TOP
 from refusal import refusal
 
 RECORDS = 5
+BAD_LINE = 22  # its kind
 UNUSED = [[10 * n + 1, 10 * n + 2, 10 * n + 3, 10 * n + 4] for n in range(RECORDS)]
 
 LUI = (65536, "Lui", 5, 0, 0, 1)
@@ -42,9 +43,9 @@ def of_the_rust(lines):
 
 
 def words_of(numbers):
-    """The words of a record as it is read: identifier, kind, sort, operands, constant, area, place and length of a name."""
-    nid, kind, sort, first, second, third, _, area, *_ = map(int, numbers)
-    return nid << 32 | area << 16 | sort << 8 | kind, first, second, third
+    """The words of a record as it is read: identifier, kind, sort, operands, constant, area, place and length of a name, mark and address."""
+    nid, kind, sort, first, second, third, _, area, _, _, mark, address = map(int, numbers)
+    return nid << 32 | mark << 28 | area << 16 | sort << 8 | kind, first, second, third, address
 
 
 class Driver:
@@ -91,7 +92,7 @@ class Driver:
         lines, dispatches, bads, names = [], [], [], ""
         if number == 0:
             self.accepted += (line,)
-            shown = iter(self.batch.accepted(*of_the_rust(self.accepted)))
+            shown = iter(self.batch.accepted(line[0], *of_the_rust(self.accepted)))
             for text in shown:
                 word, *rest = text.split()
                 if word == "edge":
@@ -104,8 +105,9 @@ class Driver:
                 elif word == "flows":
                     self.roles[lowering_cases.FLOWS :] = [int(n) for n in rest]
                 elif word != "counts":
-                    lines += words_of([word, *rest])
-                    if lines[-4] % 256 == 22:
+                    words = words_of([word, *rest])
+                    lines += words
+                    if words[0] % 256 == BAD_LINE:
                         names += next(shown)
             self.dispatches += len(dispatches) // 2
             self.bads += len(bads)

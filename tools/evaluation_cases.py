@@ -48,7 +48,8 @@ BYTES = tuple(range(11, 18))  # the sorts of inputs of 1 to 7 bytes
 
 LINES, RUN, VALUE, CELL, ASK, KEEP = range(1, 7)  # the commands
 LIST, VALUES, CELLS = range(3)  # the areas
-WORDS_OF = (16_400, 256, 384)
+NO_ADDRESS = 0  # the last word of each line; a line whose mark says that it has an address was lowered for 0
+WORDS_OF = (20_500, 256, 384)
 
 
 class Desk:
@@ -78,7 +79,7 @@ class Desk:
     def append_lines(self, from_its_place, count, head, *words):
         for _ in range(min(count, WORDS_OF[LIST] // RECORD)):
             place = self.used[LIST] // RECORD if from_its_place else 0
-            self.append(LIST, [head, *((word + place) % ALL for word in words)])
+            self.append(LIST, [head, *((word + place) % ALL for word in words), NO_ADDRESS])
 
     def append(self, area, record):
         """What doesn't fit is dropped; what stood after the words in use before stays."""
@@ -97,13 +98,15 @@ def text(answer):
     return " ".join(map(str, (["refused"] if kind == "refused" else []) + numbers))
 
 
-def head(kind, sort=0, init=0, area=0, nid=0):
+def head(kind, sort=0, init=0, area=0, nid=0, mark=0):
+    """The first word; `init` and `mark`, which is that of an address, have half a byte each."""
     number = KINDS.index(kind) + 1 if isinstance(kind, str) else kind
-    return nid << 32 | init << 24 | area << 16 | sort << 8 | number
+    assert init < 16 and mark < 16
+    return nid << 32 | mark << 28 | init << 24 | area << 16 | sort << 8 | number
 
 
 def fields_of(kind, sort=0, *words, **marks):
-    """The four words of a line."""
+    """The words of a line but the last, which the program puts."""
     return head(kind, sort, **marks), *(*words, 0, 0, 0)[:3]
 
 
@@ -462,14 +465,14 @@ def cells(c):
 
 
 def inits(c):
-    """An init isn't used and isn't looked at, and may be of a line that breaks the sort rule; the mark is any byte but 0."""
+    """An init isn't used and isn't looked at, and may be of a line that breaks the sort rule; the mark is any half byte but 0."""
     five, yes, byte = c.words(5), c.add("const", BIT, 1), c.add("const", 12, 513)
     broken = c.add("not", WORD, yes)
     memory = c.add("state", MEMORY)
     zero = c.words(0)
     x = c.add("state", WORD, five, init=1)
     c.value(x, 0, 1)
-    for mark in (1, 2, 128, 255):
+    for mark in (1, 2, 8, 15):
         with c.further():
             c.value(c.add("state", WORD, five, init=mark), 0, 1)
             c.value(c.add("state", WORD, broken, init=mark), 0, 1)
@@ -477,6 +480,8 @@ def inits(c):
             c.value(c.add("uext", 12, c.add("state", 12, byte, init=mark)), 0, 2)
             for init in (five, memory):  # a Memory has its own sort or a Word
                 c.value(c.add("read", c.add("state", MEMORY, init, init=mark), zero), 0, 3)
+            with c.further():
+                c.refused(19, c.add("state", WORD, c.lines, init=mark))  # but it must be an earlier line
     c.give(x, 9)
     c.value(x, 9, 1)
     for word in (0, five, c.lines, c.lines + 1, 2**32, TOP):  # without the mark the word is no operand
@@ -931,35 +936,36 @@ def list_sizes(c):
     last = c.run(4095, "not", WORD, -1)
     c.value(last, ~9, 4096)
     c.value(0, 9, 1)
-    for words in (4 * 4096, 4 * 4096 + 1, 16_399, 16_400, 16_401, TOP):
+    all_words = WORDS_OF[LIST]
+    for words in (RECORD * 4096, RECORD * 4096 + 1, all_words - 1, all_words, all_words + 1, TOP):
         c.value(0, 9, 1, words=words)
-    for words in (0, 3, 4, 4 * 4095, 4 * 4096 - 1):
+    for words in (0, RECORD - 1, RECORD, RECORD * 4095, RECORD * 4096 - 1):
         c.refused(19, 0, words=words)
     c.run(4, "not", WORD, -1)
     c.value(last, ~9, 4096, lines=4096)
-    for lines in (4097, 4098, 4100, 4101, 2**16 + 1, 2**32 + 1, 2**62, 2**62 + 1, 2**63, TOP):
+    for lines in (4097, 4098, 4100, 4101, 2**16 + 1, 2**32 + 1, 2**62, 2**62 + 1, 2**63, TOP, TOP // RECORD + 1):  # the last one's words are 2^64 + 4
         c.refused(19, 0, lines=lines)
-        c.refused(19, 0, lines=lines, words=4 * 4097)
+        c.refused(19, 0, lines=lines, words=RECORD * 4097)
     c.refused(19, 4096, lines=4096)
     c.do(KEEP, 0, 0, 0)
     c.refused(19, 0)  # no line at all
-    c.refused(19, 0, words=16_400, lines=0)
+    c.refused(19, 0, words=all_words, lines=0)
     c.words(9, 8, 7)
     c.value(2, 7, 1)
-    for lines, words in ((1, 4), (1, 7), (2, 8), (2, 11), (3, 12), (3, 13), (1, TOP)):
+    for lines, words in ((1, 5), (1, 9), (2, 10), (2, 14), (3, 15), (3, 16), (1, TOP)):
         c.value(lines - 1, 10 - lines, 1, lines=lines, words=words)
-    for lines, words in ((1, 0), (1, 3), (2, 7), (2, 4), (3, 11), (4, 13), (4, 15)):
+    for lines, words in ((1, 0), (1, 4), (2, 9), (2, 5), (3, 14), (4, 16), (4, 19)):
         c.refused(19, 0, lines=lines, words=words)
 
 
 def stored_before(c):
     """Words after those in use keep what stood there, and what doesn't fit is dropped."""
     c.words(1, 2, 3)
-    c.do(KEEP, 4, TOP, TOP)
-    c.value(2, 3, 1, lines=3, words=12)
+    c.do(KEEP, RECORD, TOP, TOP)
+    c.value(2, 3, 1, lines=3, words=3 * RECORD)
     c.add("const", WORD, 5)
-    c.value(2, 3, 1, lines=3, words=12)
-    c.value(1, 5, 1, lines=3, words=12)
+    c.value(2, 3, 1, lines=3, words=3 * RECORD)
+    c.value(1, 5, 1, lines=3, words=3 * RECORD)
     c.do(KEEP, 0, 0, 0)
     c.add("const", WORD, 6, count=5000)  # 4,100 of them
     c.add("const", WORD, 7)  # none of it
@@ -1119,17 +1125,44 @@ def asked_nodes(c):
 
 
 def unread(c):
-    """Names, identifiers, marks and words that a kind doesn't use."""
+    """Names, identifiers, marks, those of addresses too, and words that a kind doesn't use."""
     every = Every(c)
     for kind in KINDS:
         used = [5] if kind == "const" else every.good(kind)
         with c.further():
-            for area, nid, init in ((3, 0, 0), (255, 2**32 - 1, 0), (1, 1, 255), (2, 17, 128)):
+            for area, nid, init, mark in ((3, 0, 0, 0), (255, 2**32 - 1, 0, 0), (1, 1, 15, 15), (2, 17, 0, 8)):
                 words = [] if kind == "state" and not init else used  # a state without the mark has no operand
-                c.do(LINES, 1, *fields_of(kind, usual_sort(kind), *words, *[TOP] * (3 - len(words)), area=area, nid=nid, init=init))
+                marks = dict(area=area, nid=nid, init=init, mark=mark)
+                c.do(LINES, 1, *fields_of(kind, usual_sort(kind), *words, *[TOP] * (3 - len(words)), **marks))
                 if kind not in NO_VALUE | {"write"}:
                     c.has_value(c.lines - 1)
             c.value(every.asked, ~6, 2)
+
+
+def addresses(c):
+    """A line has the same value, takes the same visits and is refused alike with an address and without one: the mark of an address is not looked
+    at, and is none of an init."""
+    x, memory, bit = c.add("state", WORD), c.add("state", MEMORY), c.add("const", BIT, 1)
+    c.give(x, 5)
+    c.give_cell(memory, 5, 6)
+    for mark in (0, 1, 2, 8, 15):
+        with c.further():
+            seven = c.add("const", WORD, 7, mark=mark)
+            c.value(seven, 7, 1)
+            c.value(c.add("sub", seven, x, mark=mark), 2, 3)
+            c.value(c.add("ite", WORD, c.add("ult", x, seven, mark=mark), x, seven, mark=mark), 5, 5)
+            written = c.add("write", memory, seven, x, mark=mark)
+            c.value(c.add("read", written, seven, mark=mark), 5, 5)
+            c.value(c.add("read", written, x, mark=mark), 6, 5)
+            c.value(c.add("state", WORD, TOP, TOP, TOP, mark=mark), 0, 1)
+            c.value(c.add("state", WORD, x, init=1, mark=mark), 0, 1)
+            c.refused(17, c.add("not", WORD, bit, mark=mark))
+            c.refused(19, c.add("next", WORD, x, seven, mark=mark))
+            with c.further():
+                c.refused(19, c.add("state", WORD, TOP, init=1, mark=mark))
+            with c.further():
+                c.refused(19, c.add("not", WORD, c.lines, mark=mark))
+            c.refused(19, c.add("const", 4, 0, mark=mark))
 
 
 #
@@ -1253,7 +1286,7 @@ def start_lines():
 
 
 def line_words(node):
-    """The four words of a node line's text, with the identifiers as places and without its own."""
+    """The words of a node line's text but the last, with the identifiers as places and without its own."""
     operands = [operand - FIRST for operand in node.operands]
     if node.operator == "constd":
         return fields_of("const", node.sort, node.number)
@@ -1293,8 +1326,11 @@ class Lowered:
             return [instruction.nodes[0].nid - FIRST]
         return [instruction.flow - FIRST] if instruction.flow else []
 
-    def put_into(self, c):
-        for words, same in itertools.groupby(self.lines):
+    def put_into(self, c, mark=0):
+        """The list; `mark` is that of an address, for the lines after the start."""
+        start = len(START_SORTS)
+        lines = self.lines[:start] + [(first | mark << 28, *words) for first, *words in self.lines[start:]]
+        for words, same in itertools.groupby(lines):
             c.do(LINES, len(list(same)), *words)
 
 
@@ -1406,6 +1442,7 @@ GROUPS = [
     zeros_after_the_records, each_kind, operators, not_on_words, sdiv_by_signs, bits, branches, constants, no_short_cuts, reductions, first_records,
     cells, inits, writes, memory_choices, words_and_bits, deep_lists, shared_nodes, limit_cases, endless_towers, orders, sorts_kept, sorts_broken,
     rules_without_a_visit, list_sizes, stored_before, unknown_kinds_and_sorts, broken_operands, asked_nodes, unread, drawn_lists, lowered_lines,
+    addresses,
 ]  # fmt: skip
 
 

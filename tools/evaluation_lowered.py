@@ -110,7 +110,7 @@ def draw_given(draw, lowered):
 
 def ask_flows(comparison, lowered, drawn):
     unit = Unit("flows")
-    lowered.put_into(unit)
+    lowered.put_into(unit, mark=1)
     for given in drawn:
         with unit.further():
             given.put_into(unit, lowered)
@@ -134,7 +134,7 @@ def ask_instruction(comparison, unit, lowered, instruction, given):
 
 def ask_every_line(comparison, lowered, given):
     unit = Unit("every lowered line")
-    lowered.put_into(unit)
+    lowered.put_into(unit, mark=1)
     given.put_into(unit, lowered)
     for node in lowered.nodes:
         if node.sort in (BIT, WORD):

@@ -735,7 +735,7 @@ made("no-more-lines-than-the-words-hold", __init__=with_lines(lambda lines, word
 made("lines-of-32-bits", __init__=with_lines(lambda lines, words: lines % 2**32))
 made("lines-of-16-bits", __init__=with_lines(lambda lines, words: lines % 2**16))
 made("words-of-a-line-begun-are-enough", too_long=lambda self: self.count > MOST_LINES or self.count > -(-len(self.words) // RECORD))
-made("lines-times-4-wrap", too_long=lambda self: RECORD * self.count % ALL > len(self.words) or self.count in range(4097, 2**40))
+made("lines-times-5-wrap", too_long=lambda self: RECORD * self.count % ALL > len(self.words) or self.count in range(4097, 2**40))
 
 
 def broken_also(test):
@@ -768,7 +768,11 @@ def area(head):
 
 
 def mark(head):
-    return head >> 24 & 255
+    return head >> 24 & 15
+
+
+def address_mark(head):
+    return head >> 28 & 15
 
 
 made("an-unknown-sort-of-any-kind-is-19", broken=broken_also(lambda line, head: line.sort not in SORTS))
@@ -783,6 +787,11 @@ made("ext-from-word-is-19", broken=broken_also(lambda line, head: line.kind == "
 made("a-const-too-large-is-19", broken=broken_also(lambda line, head: line.kind == "const" and line.number >= 2 ** WIDTH.get(line.sort, 64)))
 made("a-const-of-memory-is-19", broken=broken_also(lambda line, head: line.kind == "const" and line.sort == MEMORY))
 made("init-marks-are-1", broken=broken_also(lambda line, head: line.kind == "state" and mark(head) > 1))
+made("the-lowest-bit-marks-an-init", broken=broken_but(lambda line, head: line.kind == "state" and line.known and mark(head) % 2 == 0))
+made("the-highest-bit-marks-no-init", broken=broken_but(lambda line, head: line.kind == "state" and line.known and mark(head) == 8))
+made("address-marks-are-1", broken=broken_also(lambda line, head: address_mark(head) > 1))
+made("address-marks-are-read", broken=broken_also(lambda line, head: address_mark(head) > 0))
+made("an-address-mark-is-an-init", broken=reads_also(lambda line, head: [1] if line.kind == "state" and address_mark(head) else []))
 made("init-marks-of-other-kinds-are-read", broken=broken_also(lambda line, head: line.kind != "state" and mark(head) > 0))
 made("an-init-without-its-mark-is-read", broken=reads_also(lambda line, head: [1] if line.kind == "state" else []))
 made("an-init-of-an-input-is-read", broken=reads_also(lambda line, head: [1] if line.kind == "input" and mark(head) else []))

@@ -6,14 +6,15 @@ sorts are those of host/lanthanumbat.h.
 
     evaluate(words, lines, values, memory, asked)   ("value", the value, the visits) or ("refused", the number)
 
-`words` are the words of the list that are lent, four a line, and `lines` is how many lines it has; `values` are the words of records (node,
-value), `memory` those of records (node, address, word). A look at a node is a generator that yields the looks it needs and is sent what they
-come to. `run` keeps those that wait in a list, so that a chain of 4,096 lines is no deeper for Python than a short one.
+`words` are the words of the list that are lent, five a line, and `lines` is how many lines it has; `values` are the words of records (node,
+value), `memory` those of records (node, address, word). The address that a line was lowered for, its last word, and its mark are not looked at
+(document 02, R-3). A look at a node is a generator that yields the looks it needs and is sent what they come to. `run` keeps those that wait in
+a list, so that a chain of 4,096 lines is no deeper for Python than a short one.
 """
 import functools
 
 MOST_LINES, MOST_VISITS = 4096, 100_000
-RECORD, VALUE_RECORD, MEMORY_RECORD = 4, 2, 3  # words
+RECORD, VALUE_RECORD, MEMORY_RECORD = 5, 2, 3  # words
 
 KINDS = "const read write add sub mul udiv sdiv urem sll srl ult uext ite eq and or not state next input bad".split()
 BIT, WORD, MEMORY = 1, 2, 3
@@ -73,13 +74,13 @@ OPERATORS = {  # of the operands' values; And, Or and Eq on Bits too
 
 
 class Line:
-    """What four words say. `kind` is None where the number is no kind's; `carries` is the sort of its value, None for a line that has none."""
+    """What five words say. `kind` is None where the number is no kind's; `carries` is the sort of its value, None for a line that has none."""
 
-    def __init__(self, head, first, second, third):
+    def __init__(self, head, first, second, third, address=0):
         kind, self.sort = head & 255, head >> 8 & 255
         self.kind = KINDS[kind - 1] if 1 <= kind <= len(KINDS) else None
         self.number = first  # of a const
-        has_init = self.kind == "state" and head >> 24 & 255 != 0
+        has_init = self.kind == "state" and head >> 24 & 15 != 0
         self.operands = (first, second, third)[: 1 if has_init else OPERANDS.get(self.kind, 0)]
         self.known = self.kind is not None and (self.kind not in OWN_SORT or self.sort in SORTS)
         self.carries = self.value_sort() if self.known else None

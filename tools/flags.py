@@ -9,15 +9,15 @@ for which there is no room (8).
 
 The lines' records are read, every line is evaluated by BTOR2's operators, on random states, and it must hold that
 
-- each call is accepted or refused with document 01's number, and lines stand under identifiers that go up by one;
+- each call is accepted or refused with document 01's number, and lines stand under identifiers that go up by one and have their call's address;
 - no line is ill-sorted;
 - where at most one accepted call that needs a flag has it at 1, and its load or store stays in one aligned word of 8 bytes: each flow of x1 to
   x31 has the manual's value where that call writes it, and else its starting value; the memory flow is the memory node with the bytes that
   it stores, and else what it was at the start.
 
-Prints counts, then 'no difference' or the differences; the exit status is 0 only without any. --self-test alters lines, flags and flows, one at
-a time, in a list of all 46 kinds, each under a flag of its own: each must be found. btor2_values.py evaluates, riscv_manual.py is the manual,
-and refusal.py document 01's numbers; nothing is shared with the project's definitions and code but the layout of the records.
+Prints counts, then 'no difference' or the differences; the exit status is 0 only without any. --self-test alters lines, addresses, flags and
+flows, one at a time, in a list of all 46 kinds, each under a flag of its own: each must be found. btor2_values.py evaluates, riscv_manual.py is
+the manual, and refusal.py document 01's numbers; nothing is shared with the project's definitions and code but the layout of the records.
 """
 import argparse
 import collections
@@ -47,11 +47,12 @@ OPERANDS = {"not": 1, "bad": 1, "constd": 0, "uext": 1, "write": 3, "ite": 3}  #
 
 
 class Call:
-    """An instruction at an address under a flag, a place. `nodes` are its lines, `number` its refusal or 0."""
+    """An instruction at an address under a flag, a place. `nodes` are its lines, `marks` the mark and the address of each, `number` its refusal or
+    0."""
 
     def __init__(self, kind, rd, rs1, rs2, imm, flag, pc=65536):
         self.kind, self.rd, self.rs1, self.rs2, self.imm, self.flag, self.pc = kind, rd, rs1, rs2, imm, flag, pc
-        self.number, self.nodes = None, []
+        self.number, self.nodes, self.marks = None, [], []
 
     def __str__(self):
         return f"{self.pc} {self.kind} {self.rd} {self.rs1} {self.rs2} {self.imm} under {self.flag}"
@@ -72,7 +73,7 @@ class Call:
 
 
 def node_text(record):
-    """A record of ten numbers as the line that it stands for."""
+    """A record of twelve numbers as the line that it stands for."""
     nid, kind, sort, *operands, imm = record[:7]
     operator = OPERATORS[kind - 1]
     words = [FIRST + place for place in operands[: OPERANDS.get(operator, 2)]]
@@ -98,11 +99,13 @@ class Run:
 
     def read(self, out):
         for call in self.calls:
-            call.number, call.nodes = 0, []
+            call.number, call.nodes, call.marks = 0, [], []
             for line in out:
                 word, *rest = line.split()
                 if word.isdigit():
-                    call.nodes.append(Node(node_text([int(word), *map(int, rest)])))
+                    record = [int(word), *map(int, rest)]
+                    call.nodes.append(Node(node_text(record)))
+                    call.marks.append(record[10:])
                     if call.nodes[-1].operator == "bad":
                         next(out)  # its name
                 elif word == "refused":
@@ -259,6 +262,8 @@ def differences(run, states, counts):
         if call.number != number:
             return [f"{call}: refusal {call.number}, not {number}"]
         counts[f"refused with {number}"] += number != 0
+        if any(mark != [1, call.pc] for mark in call.marks):
+            return [f"{call}: its lines have the marks and addresses {call.marks}"]
     nodes = run.nodes()
     if [node.nid for node in nodes] != list(range(START, START + len(nodes))):
         return ["identifiers don't rise by one from 59"]
@@ -447,6 +452,13 @@ def self_test(program):
         if not any(differs(run, nodes, set(), values, counts) for values in a_few):
             missed.append(f"not found: flow {n + 1} at {run.flows[n]} for {kept}")
         run.flows[n] = kept
+    for call in run.calls:  # another address, or none
+        for mark in ([1, call.pc ^ 1], [0, 0]) if call.marks else ():
+            kept, call.marks[-1] = call.marks[-1], mark
+            tried += 1
+            if not differences(run, [], counts):
+                missed.append(f"{call}: not found: {mark}")
+            call.marks[-1] = kept
     for call in flagged:  # another answer
         call.number = 4
         tried += 1

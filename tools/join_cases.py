@@ -25,8 +25,8 @@ import lowering_cases
 from join_desk import DISPATCHES, EDGES, FLAGS, Desk
 from join_lists import ADDRESSES
 from join_reading import BRANCH, EDGE, MOST_LINES, MOST_NID, RECORD, REGULAR, SYSCALL
-from lowering_cases import TOP
-from start_cases import ROLE_SORTS
+from lowering_cases import NO_NAME, TOP
+from start_cases import BIT, KIND, ROLE_SORTS
 
 LONG, SHORT = 2**64 - 1, 9  # a source's address of twenty digits, and of one
 NAME = len("kernel-mode-pc-flag-")
@@ -244,7 +244,7 @@ def counts_at_their_limits(c):
     """9: with as much as is lent in use accepted, with one more refused; and the largest next identifier."""
     flag, lines = [regular(10)], len(c.lines.records)
     address = c.lines.at["address"]
-    for words in (RECORD * lines, RECORD * lines + 3):
+    for words in (RECORD * lines, RECORD * lines + RECORD - 1):
         c.lend(list_words=words)
         c.accepted(c.lines.flags[2])
         c.accepted(edges=flag)  # no line: the flag is the flow
@@ -334,9 +334,9 @@ def flags_in_turn(c):
         c.refused(15, none=bad)
         c.refused(15, flags=[(10, bad)])
         c.refused(15, dynamics=[bad] * 31)
-    # a Bit that is stored after the list's end is none of its lines
-    for place, record in enumerate(([0, 19, 1, 0, 0, 0, 0, 0, 0, 0],) * 2, lines):
-        c.do(join_lists.LINE, place, c.lines.next + place, *record[1:])
+    # a Bit that is stored after the list's end is none of its lines; nor is its address that of a line which a later join puts there
+    for place in (lines, lines + 1):
+        c.do(join_lists.LINE, place, c.lines.next + place, KIND["State"], BIT, 0, 0, 0, 0, *NO_NAME, 1, TOP)
     c.refused(15, lines)
     c.refused(15, edges=edges, flags=[(10, lines + 1), (9, good[0])])
     c.refused(15, edges=edges, none=lines)

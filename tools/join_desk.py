@@ -7,31 +7,34 @@ what it shows of the whole storage after each call is what an accepted call may 
 the records is the crates'.
 """
 from join_reading import RECORD, Join
-from start_cases import KIND, ROLE_SORTS
+from start_cases import KIND, NO_ADDRESS, ROLE_SORTS
 
 JOIN, LINE, COUNTS, ROLE, EDGES, DISPATCHES, FLAGS, DYNAMICS, KERNEL, LENT, SCRATCH = range(1, 12)  # the commands
 AREAS = (EDGES, DISPATCHES, FLAGS, DYNAMICS)
-LIST_WORDS, NAME_BYTES, SEQUENTIALS, AREA_WORDS = 3200, 2048, 64, 64
+LIST_WORDS, NAME_BYTES, SEQUENTIALS, AREA_WORDS = 4000, 2048, 64, 64
 SCRATCH_WORDS = 68  # those that a call may use
 BEFORE = 46  # every word and byte of them, the list, our area and the sequentials, so that a 0 which a call puts anywhere shows
 NAMED = {KIND["State"], KIND["Input"], KIND["Bad"]}
 
 
 def words_of(record):
-    """A record's four words. A constant stands in the first operand's place, the place and the length of a name in those of the others."""
-    nid, kind, sort, first, second, third, imm, area, at, length = record
+    """A record's five words. A constant stands in the first operand's place, the place and the length of a name in those of the others. The last
+    is the address; where there is none it is 0."""
+    nid, kind, sort, first, second, third, imm, area, at, length, mark, address = record
     init = kind == KIND["State"] and imm != 0
     if kind in NAMED:
         second, third = at, length
-    return [nid << 32 | init << 24 | area << 16 | sort << 8 | kind, imm if kind == KIND["Const"] else first, second, third]
+    head = nid << 32 | (mark != 0) << 28 | init << 24 | area << 16 | sort << 8 | kind
+    return [head, imm if kind == KIND["Const"] else first, second, third, address if mark else 0]
 
 
 def record_of(words):
-    """The ten numbers of four words, as they are read."""
-    head, first, second, third = words
+    """The twelve numbers of five words, as they are read."""
+    head, first, second, third, address = words
     kind = head % 256
-    imm = head >> 24 & 255 if kind == KIND["State"] else first
-    return [head >> 32, kind, head >> 8 & 255, first, second, third, imm, head >> 16 & 255, second, third]
+    imm = head >> 24 & 15 if kind == KIND["State"] else first
+    said = (1, address) if head >> 28 & 15 else NO_ADDRESS
+    return [head >> 32, kind, head >> 8 & 255, first, second, third, imm, head >> 16 & 255, second, third, *said]
 
 
 class Digested:
@@ -127,7 +130,7 @@ class Desk:
         """A line of the list, and after a State its name."""
         yield " ".join(map(str, record))
         if record[1] == KIND["State"]:
-            at, length = record[8:]
+            at, length = record[8:10]
             yield bytes(self.names.numbers[at : at + length]).decode()
 
     def in_use(self):

@@ -1,7 +1,8 @@
 """Lists to join on: the two starts of the oracle, each with further lines after it, and calls on them as commands of crates/join_cases.
 
 The further lines are the kernel nodes, 31 dynamic flags, flags, and a line of every kind and sort: Bits and Words that a join may be given, and
-lines that it may not. States with an init stand among them, so that identifiers drift from places.
+lines that it may not. States with an init stand among them, so that identifiers drift from places. Some have an address, as lines of a lowering
+have, which a join leaves as it is.
 """
 import lowering_cases
 import start_cases
@@ -34,13 +35,14 @@ class Lines:
 
     def as_start(self):
         """The list as a start, which document 01's check of a start must accept."""
-        records = [start_cases.Line(kind, nid, sort, operands, imm) for nid, kind, sort, *operands, imm, _, _, _ in self.records]
+        records = [start_cases.Line.of(*record) for record in self.records]
         return start_cases.Start(records, self.roles, self.next, words=RECORD * len(records))
 
     def add(self, name, kind, sort, operands=(), imm=0):
         first, second, third = (*operands, 0, 0, 0)[:3]
         self.at[name] = len(self.records)
-        self.records.append([self.next, KIND[kind], sort, first, second, third, imm, 0, 0, 0])
+        address = lowering_cases.some_address(len(self.records))
+        self.records.append([self.next, KIND[kind], sort, first, second, third, imm, *lowering_cases.NO_NAME, *address])
         self.next += 2 if kind == "State" and imm else 1
         return self.at[name]
 

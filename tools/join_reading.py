@@ -6,20 +6,21 @@
 
 `Join` is all that one call is lent and given, with the state before it; `Reading` answers it: `refusal` gives the first of 9, 13, 15, 16 and
 8 that applies, or 0, `joined` what an accepted call appends, and `put_words` what any call leaves of its edges in the words that it may use.
-Document 02 has no such words: four an edge are the project's own (docs/DECISIONS.md), and fewer are 9. A record is ten numbers: identifier,
-kind, sort, three operands, constant, area, place and length of a name, as crates/lowering_cases/stdout has them. Which lines have a value, and
-of what sort, and the sorts of the roles, are start_cases.py's reading of document 01.
+Document 02 has no such words: four an edge are the project's own (docs/DECISIONS.md), and fewer are 9. A record is twelve numbers: identifier,
+kind, sort, three operands, constant, area, place and length of a name, mark and address, as crates/lowering_cases/stdout has them. A line that
+comes "from the joining of edges" has no address (document 02, R-3), and those of other lines are not looked at. Which lines have a value, and of
+what sort, and the sorts of the roles, are start_cases.py's reading of document 01.
 """
 import dataclasses
 import functools
 import sys
 
-from start_cases import BIT, KIND, ROLE_SORTS, WORD, Line
+from start_cases import BIT, KIND, NO_ADDRESS, ROLE_SORTS, WORD, Line
 
 MOST_LINES = 1_048_576
 MOST_NID = 2**31 + 2_097_152
 REGULAR, BRANCH, SYSCALL = range(3)  # an edge's origin
-EDGE, DISPATCH, FLAG, RECORD = 4, 2, 2, 4  # words
+EDGE, DISPATCH, FLAG, RECORD = 4, 2, 2, 5  # words
 REGISTER_NODES = 7  # the role of x0's node
 DYNAMIC_FLAGS = 31
 OURS = 2  # the area of names that we put
@@ -231,13 +232,13 @@ class Reading:
 
     def append(self, kind, sort, first, second, third=0):
         """A line without a constant or a name, whose words are read as those of any line."""
-        return self.put([self.made.nid, KIND[kind], sort, first, second, third, first, 0, second, third], 1)
+        return self.put([self.made.nid, KIND[kind], sort, first, second, third, first, 0, second, third, *NO_ADDRESS], 1)
 
     def append_state(self, name):
         """A Bit with the zero bit as init, which takes two identifiers."""
         at = self.join.names + len(self.made.names)
         self.made.names += name
-        return self.put([self.made.nid, KIND["State"], BIT, self.zero, at, len(name), 1, OURS, at, len(name)], 2)
+        return self.put([self.made.nid, KIND["State"], BIT, self.zero, at, len(name), 1, OURS, at, len(name), *NO_ADDRESS], 2)
 
     def put(self, record, identifiers):
         self.made.lines.append(record)

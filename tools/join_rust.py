@@ -20,13 +20,18 @@ class Disagree(Exception):
     """The Rust and the reading don't fit together, or the oracle's answer is none."""
 
 
+def known(record):
+    """What the oracle knows of a record: its nodes have no address."""
+    return tuple(record[:10])
+
+
 class Rust:
     """An oracle at work from one of its starts, a `lowering_cases.Start`."""
 
     def __init__(self, start):
         command = [DIFFERENTIAL / "target" / "oracle", *start.chosen, "--join"]
         self.process = subprocess.Popen(command, stdin=subprocess.PIPE, stdout=subprocess.PIPE, text=True)
-        self.lines = [tuple(record_of(words_of(record))) for record in start.records]  # those that the oracle has
+        self.lines = [known(record_of(words_of(record))) for record in start.records]  # those that the oracle has
 
     def close(self):
         self.process.stdin.close()
@@ -52,7 +57,7 @@ class Rust:
 
     def follow(self, join):
         """Hands over the list and all that the call is given beside its edges and dispatches."""
-        lines = [tuple(record) for record in join.records[: join.lines]]
+        lines = [known(record) for record in join.records[: join.lines]]
         same = next((n for n, (has, given) in enumerate(zip(self.lines, lines)) if has != given), min(len(self.lines), len(lines)))
         self.say("cut", same, join.nid)
         for record in lines[same:]:
@@ -92,7 +97,7 @@ class Rust:
             made.lines.append(list(record_numbers(text, lambda o: places[int(o)], at)))
         made.sequentials = [places[int(nid)] for nid in sequentials.removeprefix("; sequentials").split()]
         made.flow = places[int(flow.removeprefix("; flow "))]
-        self.lines += [tuple(record) for record in made.lines]
+        self.lines += [known(record) for record in made.lines]
         return made
 
 

@@ -296,6 +296,29 @@ class address_constant_for_dispatches(Reading):
 
 
 @lines
+class lines_with_the_source_s_address(Reading):
+    def take_edge(self, source, origin, condition):
+        first = len(self.made.lines)
+        super().take_edge(source, origin, condition)
+        for record in self.made.lines[first:]:
+            record[-2:] = 1, source
+
+
+@lines
+class states_with_the_source_s_address(Reading):
+    def from_ecall(self, flag, source):
+        state = len(self.made.lines)
+        super().from_ecall(flag, source)
+        self.made.lines[state][-2:] = 1, source
+
+
+@lines
+class address_0_for_none(Reading):
+    def put(self, record, identifiers):
+        return super().put([*record[:-2], 1, 0], identifiers)
+
+
+@lines
 class zero_for_the_one_bit(Reading):
     def __init__(self, join):
         super().__init__(join)

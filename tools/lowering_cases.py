@@ -7,7 +7,8 @@
 
 There are two starts: the listing's, and the oracle's start apart, in which no two roles are one line and identifiers drift from places
 (differential/oracle/driver.rs). Both are read off what the oracle prints of them. The program has the first by itself and is handed the
-second, record by record and role by role.
+second, record by record and role by role. The Rust's nodes have no addresses (document 02, R-3): each line that a call appends has the call's,
+and of the second start, whose lines may have any, every third has one.
 
 The instructions are hand-picked boundary lines and lines of differential/generate.py. What they append is read off the text that the
 unchanged Rust prints for them (differential/target/oracle, which differential/build.sh makes): its node lines, edges, dispatches and
@@ -44,6 +45,8 @@ LOWER = 1  # the program's command
 IN_A_BATCH = 20
 FLOWS = 39  # the role of x1's flow, the first that a lowering changes
 NO_NAME = (0, 0, 0)  # area, place and length
+NO_ADDRESS = (0, 0)  # mark and address
+ADDRESSES = [0, 1, 65536, 2**63, TOP]  # of lines that are handed over
 OURS = 2  # the area of names that a call puts
 
 
@@ -59,8 +62,9 @@ def oracle(arguments, lines=()):
     return run.stdout.splitlines()
 
 
-def record_numbers(text, place, name=NO_NAME):
-    """The ten numbers of a printed node line as its record is read. `place` gives the place of an identifier, `name` says where its name lies."""
+def record_numbers(text, place, name=NO_NAME, address=NO_ADDRESS):
+    """The twelve numbers of a printed node line as its record is read. `place` gives the place of an identifier, `name` says where its name lies,
+    `address` is its mark and the address of its instruction, neither of which is printed."""
     nid, operator, *rest = text.split()
     sort = 0 if operator == "bad" else int(rest.pop(0))
     if operator == "uext":  # printed with the bits that it adds; the record has the sort that it extends
@@ -74,7 +78,21 @@ def record_numbers(text, place, name=NO_NAME):
         operands = [place(o) for o in (rest[:1] if operator == "bad" else rest)]
     first, *others = operands + [0] * (3 - len(operands))
     others = others if name == NO_NAME else name[1:]
-    return (int(nid), OPERATORS.index(operator) + 1, sort, first, *others, first, name[0], *others)
+    return (int(nid), OPERATORS.index(operator) + 1, sort, first, *others, first, name[0], *others, *address)
+
+
+def some_address(place):
+    """For a line that may have any: every third one has one."""
+    return (1, ADDRESSES[place % len(ADDRESSES)]) if place % 3 == 0 else NO_ADDRESS
+
+
+def shown(place, record):
+    """The program's command that shows a Const, a State or a line of operands alone that was put there without a name, and its answer."""
+    nid, kind, sort, *operands, imm, _, _, _, mark, address = record
+    operator = OPERATORS[kind - 1]
+    first, *others = [imm, 0, 0] if operator == "constd" else operands
+    read = (nid, kind, sort, first, *others, imm if operator == "state" else first, 0, *others, mark, address)
+    return (6, place), [" ".join(map(str, read))] + [""] * (operator == "state")
 
 
 class Start:
@@ -100,7 +118,11 @@ class Start:
         assert operator in ("constd", "state")
         imm = int(rest[0]) if operator == "constd" else 0
         self.places[int(nid)] = len(self.records)
-        self.records.append([int(nid), OPERATORS.index(operator) + 1, int(sort), 0, 0, 0, imm, 0, 0, 0])
+        self.records.append([int(nid), OPERATORS.index(operator) + 1, int(sort), 0, 0, 0, imm, *NO_NAME, *self.address_at(len(self.records))])
+
+    def address_at(self, place):
+        """What a line of the start has; the listing's lines have none."""
+        return some_address(place) if self.chosen else NO_ADDRESS
 
     def put(self):
         """The program's commands that make this start: every record, the counts, every role."""
@@ -115,6 +137,11 @@ class Start:
         yield counts(lines=self.lines, nid=self.next)
         for role, place in enumerate(self.roles[FLOWS:], FLOWS):
             yield (4, role, place), []
+
+    def show(self):
+        """The program's commands that show every line of this start, which no call changes."""
+        for place, record in enumerate(self.records):
+            yield shown(place, record)
 
     def answers(self, lines):
         """For each line what the Rust prints for it, and the flows after it."""
@@ -149,20 +176,20 @@ class Batch:
         nid = int(nid)
         return self.start.places[nid] if nid < self.start.next else self.first + nid - self.start.next
 
-    def record(self, text):
-        """The numbers of a node line as its record is read, and its name where it is bad."""
+    def record(self, text, address):
+        """The numbers of a node line of a call at this address as its record is read, and its name where it is bad."""
         nid, operator, *rest = text.split()
         assert int(nid) == self.rust and self.lines < HOLDS and operator not in ("state", "next", "input")
         label = rest[1] if operator == "bad" else ""
         name = (OURS, self.names, len(label)) if label else NO_NAME
-        numbers = (self.nid, *record_numbers(text, self.place, name)[1:])
+        numbers = (self.nid, *record_numbers(text, self.place, name, (1, address))[1:])
         self.names += len(label)
         self.lines += 1
         self.nid += 1
         self.rust += 1
         return [" ".join(map(str, numbers))] + [label] * (operator == "bad")
 
-    def accepted(self, printed, flows):
+    def accepted(self, address, printed, flows):
         out, edges, dispatches, bads = [], self.edges, self.dispatches, 0
         for text in printed:
             if text.startswith("; in "):
@@ -176,7 +203,7 @@ class Batch:
             else:
                 assert not text.startswith(";")
                 bads += text.split()[1] == "bad"
-                out += self.record(text)
+                out += self.record(text, address)
         # A bad is the call's last line, and has no edge nor dispatch beside it.
         out += [f"bad {self.lines - 1}"] * bads
         self.bads += bads
@@ -189,7 +216,7 @@ class Batch:
         number = refusal(*line[1:])
         expected = {0: None, 2: "; unencodable"}.get(number, "; panic")
         assert (printed[0] if printed[:1] in (["; panic"], ["; unencodable"]) else None) == expected, (line, printed)
-        return [f"refused {number}"] if number else self.accepted(printed, flows)
+        return [f"refused {number}"] if number else self.accepted(line[0], printed, flows)
 
 
 @functools.cache
@@ -430,6 +457,23 @@ def role_cases():
     yield FRESH
 
 
+def other_lines():
+    """A call changes no line but those that it appends: those of the start, with an address or without, and one after the list's end stay as they
+    are, and so do all where it is refused."""
+    start = apart()
+    after = start.lines + 2  # two lines are appended
+    for address in (NO_ADDRESS, (1, TOP)):
+        record = [7, OPERATORS.index("not") + 1, 1, 0, 0, 0, 0, *NO_NAME, *address]
+        yield from start.put_again()
+        yield (5, after, *record), []
+        yield from start.lowered([LUI])
+        yield shown(after, record)
+        yield refused(lower(LUI, TOP), 7)
+        yield refused(lower((0, "Lwu", 1, 2, 3, 4), start.flag), 1)
+        yield shown(after, record)
+    yield from start.show()
+
+
 def commands():
     for lines in batches():
         yield FRESH
@@ -440,6 +484,7 @@ def commands():
     yield from count_cases()
     yield from role_cases()
     yield from from_apart(list(apart_lines()))
+    yield from other_lines()
     yield FRESH
 
 

@@ -5,9 +5,10 @@
     tools/print_cases.py stdout   crates/print_cases/stdout: what each print writes, or its refusal
 
 The text of a run is what the unchanged Rust's write_model prints for the same nodes (differential/target/oracle --nodes, which
-differential/build.sh makes). The Rust has no refusals here and no missing name of an Input, for which it is given the name `?`. The refusals
-are read off document 01 below. Nothing here is shared with the project's definitions and code but the layout of a record, the numbers of
-kinds and the bytes of the name areas.
+differential/build.sh makes). The Rust has no refusals here and no missing name of an Input, for which it is given the name `?`. Nor do its
+nodes have the addresses that some of the records have, which change no text and no answer (document 02, R-3). The refusals are read off
+document 01 below. Nothing here is shared with the project's definitions and code but the layout of a record, the numbers of kinds and the
+bytes of the name areas.
 """
 import pathlib
 import random
@@ -31,12 +32,20 @@ ROOM = 16384  # the longest output that the program lends
 
 MISSING = (0, 0, 0)
 EMPTY, WHOLE_HOST, WHOLE_OURS = (1, 0, 0), (1, 0, len(AREAS[1])), (2, 0, len(AREAS[2]))
+# The mark of an address, which any number but 0 is, and the address; where the mark is 0 there is none.
+NO_ADDRESS = (0, 0)
+ADDRESSES = (NO_ADDRESS, (1, 0), (0, TOP), (1, TOP), (16, 65536), (TOP, 2**63), (2, 1))
 NAMES = (MISSING, (0, 7, TOP), EMPTY, (1, 19, 0), (2, 26, 0), (1, 0, 2), (1, 2, 3), (1, 5, 12), (1, 17, 2), WHOLE_HOST, (2, 0, 4), (2, 4, 22), WHOLE_OURS)
 
 
-def record(nid, kind, sort=0, ops=(), imm=0, name=MISSING):
+def record(nid, kind, sort=0, ops=(), imm=0, name=MISSING, address=NO_ADDRESS):
     ops = (*ops, 0, 0, 0)[:3]
-    return [nid, NUMBER.get(kind, kind), sort, *ops, imm, *name]
+    return [nid, NUMBER.get(kind, kind), sort, *ops, imm, *name, *address]
+
+
+def with_address(fields, address):
+    """The same record with another mark and address."""
+    return [*fields[:-2], *address]
 
 
 #
@@ -54,7 +63,7 @@ def operands(kind, imm):
 
 def unformed(records, p):
     """Refusal 11 of the line at place p."""
-    nid, number, sort, *ops, imm, area, at, length = records[p]
+    nid, number, sort, *ops, imm, area, at, length, _, _ = records[p]
     if not 1 <= number <= len(KINDS):
         return True
     kind = KINDS[number - 1]
@@ -81,7 +90,7 @@ def refusal(records, lines, start, count):
 
 
 def node(fields):
-    nid, number, sort, *ops, imm, area, at, length = fields
+    nid, number, sort, *ops, imm, area, at, length, _, _ = fields
     name = "-"
     if has_name(KINDS[number - 1]) and area != 0:
         name = "=" + AREAS[area][at : at + length].decode()
@@ -103,7 +112,7 @@ def text(records, lines, start, count):
 
 class Cases:
     def __init__(self):
-        self.records = [[0] * 10 for _ in range(HOLDS)]
+        self.records = [[0] * 12 for _ in range(HOLDS)]
         self.commands = []
         self.answers = []
 
@@ -174,7 +183,7 @@ def names_and_inits():
 
 def drawn(seed):
     """A list of drawn lines that refusals 9 and 11 pass."""
-    draw = random.Random(seed)
+    draw, addresses = random.Random(seed), random.Random(f"addresses {seed}")
     lines = []
     values = []
     while len(lines) < 40:
@@ -188,7 +197,8 @@ def drawn(seed):
         name = draw.choice(NAMES) if has_name(kind) else (draw.randrange(4), draw.randrange(2**64), draw.randrange(2**64))
         if kind not in ("Next", "Bad"):
             values.append(len(lines))
-        lines.append(record(draw.choice((draw.randrange(1000), draw.randrange(MOST_NID + 1))), kind, sort, used + unused, imm, name))
+        nid = draw.choice((draw.randrange(1000), draw.randrange(MOST_NID + 1)))
+        lines.append(record(nid, kind, sort, used + unused, imm, name, addresses.choice(ADDRESSES)))
     return lines
 
 
@@ -203,6 +213,10 @@ def cases():
         c.limits(len(lines), 0, len(lines))
         for start, count in ((0, 1), (len(lines) - 1, 1), (3, 0), (len(lines), 0), (2, 7)):
             c.limits(len(lines), start, count)
+    # the same names and inits on lines with addresses: the same text
+    lines = [with_address(line, ADDRESSES[place % len(ADDRESSES)]) for place, line in enumerate(names_and_inits())]
+    c.fill(lines)
+    c.limits(len(lines), 0, len(lines))
     # drawn lists, and runs of them
     for seed in range(8):
         lines = drawn(seed)
@@ -244,6 +258,11 @@ def cases():
             for at, length in ((0, 19), (0, 20), (19, 0), (20, 0), (1, 18), (1, 19), (26, 0), (27, 0), (0, 26), (0, 27), (TOP, 1), (1, TOP), (TOP, TOP)):
                 for _ in c.with_line(n, record(500, kind, 2, (first_value,) * 3, 0, (area, at, length))):
                     c.print(n + 1, n, 1)
+    # an address, or none, of a line that is good and of one that is not
+    for address in ADDRESSES:
+        for fields in (record(500, "State", 2, (first_value,) * 3, 0), record(500, "State", 2, (first_value,) * 3, 1), record(500, "State", 4)):
+            for _ in c.with_line(n, with_address(fields, address)):
+                c.print(n + 1, n, 1)
     # the order: 9 before 11 before 14, over the whole list whatever the run is
     bad_line, high_nid = record(500, 0), record(MOST_NID + 1, "Const", 2)
     for place, fields in ((n, bad_line), (n, high_nid), (0, bad_line), (0, high_nid)):

@@ -6,7 +6,8 @@
 
 The answers are read off document 01 by `refusal` below, which shares nothing with the project's definitions and code but the layout of the
 records, the numbers of the kinds and the order of the roles. Where a start is made for one rule, its number is written beside it as well,
-and both must agree. One start is the one that crates/lowering_cases/stdin hands over, in which no two roles are one line.
+and both must agree. One start is the one that crates/lowering_cases/stdin hands over, in which no two roles are one line. Some lines have
+addresses: a start keeps them as they are, and no check looks at them (document 02, R-3).
 """
 import itertools
 import pathlib
@@ -35,17 +36,23 @@ ROLE_SORTS = (
 assert len(ROLE_SORTS) == 79
 
 # The words of a record. What the program has: words of the list, and the most that it lends of the rest.
-RECORD = 4
+RECORD = 5
 WORDS, AREA, NUMBERS = 100 * RECORD, 64, 64
+
+# The mark of an address, which any number but 0 is, and the address; where the mark is 0 there is none.
+NO_ADDRESS = (0, 0)
+ADDRESSES = (1, 0), (1, TOP), (0, TOP), (2, 65536), (16, 2**63), (TOP, 1)
+ADDRESS_OR_NONE = NO_ADDRESS, *ADDRESSES
+NO_RECORD = (0,) * 12
 
 
 class Line:
-    """A record: identifier, kind, sort, operands, constant, name."""
+    """A record: identifier, kind, sort, operands, constant, name, and the mark of an address and the address, which nothing here looks at."""
 
-    def __init__(self, kind, nid, sort=0, operands=(), imm=0, name=(0, 0, 0)):
+    def __init__(self, kind, nid, sort=0, operands=(), imm=0, name=(0, 0, 0), address=NO_ADDRESS):
         number = KIND[kind] if isinstance(kind, str) else kind
         ops = (*operands, 0, 0, 0)[:3]
-        self.given = (nid, number, sort, *ops, imm, *name)
+        self.given = (nid, number, sort, *ops, imm, *name, *address)
         # the record has four bytes for the identifier and one each for the kind, the sort and the area of a name: what does not fit is stored
         # as the largest that does. The init of a State is marked by 1
         area, *part = name
@@ -95,8 +102,16 @@ class Line:
 
     def at(self, nid):
         """The same with another identifier."""
-        _, kind, sort, op1, op2, op3, imm, *name = self.given
-        return Line(kind, nid, sort, (op1, op2, op3), imm, name)
+        return Line.of(nid, *self.given[1:])
+
+    def addressed(self, address):
+        """The same with another mark and address."""
+        return Line.of(*self.given[:-2], *address)
+
+    @staticmethod
+    def of(nid, kind, sort, op1, op2, op3, imm, area, at, length, mark, address):
+        """The line of a record's numbers."""
+        return Line(kind, nid, sort, (op1, op2, op3), imm, (area, at, length), (mark, address))
 
 
 class Start:
@@ -226,9 +241,9 @@ def handed(**given):
     for command in HANDED.read_text().splitlines():
         which, *numbers = map(int, command.split())
         if which == 5:
-            place, nid, kind, sort, *operands, imm, area, at, length = numbers
+            place, *record = numbers
             assert place == len(lines)
-            lines.append(Line(kind, nid, sort, operands, imm, (area, at, length)))
+            lines.append(Line.of(*record))
         elif which == 3 and lines:
             counts = numbers
         elif which == 4 and lines:
@@ -423,6 +438,34 @@ def refused_13():
     yield small(lines=0, next_nid=18)
 
 
+def with_addresses(number, *starts):
+    """Each of these starts with addresses on its lines, and the number that all of them have."""
+    for s in starts:
+        s.stored = [line.addressed(ADDRESSES[place % len(ADDRESSES)]) for place, line in enumerate(s.stored)]
+        yield number, s
+
+
+def addressed():
+    """Starts of every number whose lines have addresses, and States with the mark of an address, which is none of an init: such a State has
+    an operand and takes two identifiers only where it has an init."""
+    yield from with_addresses(0, with_sorts(), small())
+    yield from with_addresses(9, small(bads=3))
+    yield from with_addresses(10, small(nids=(21, 21, 22)), small(next_nid=22))
+    yield from with_addresses(11, one_more(0), one_more("State", 4), one_more("Not", WORD, (3,)))
+    yield from with_addresses(12, one_more("Const", BIT, imm=2), one_more("Bad", operands=(1,)))
+    yield from with_addresses(13, Start(small().stored, [*roles_at(0, 1, 2)[:78], 1]))
+    for address in ADDRESSES:
+        plain, init = Line("State", 23, WORD, (TOP,), 0, address=address), Line("State", 23, WORD, (1,), 1, address=address)
+        yield 0, small(plain, Line("Const", 24, BIT))
+        yield 0, small(plain, next_nid=24)
+        yield 0, small(init, Line("Const", 25, BIT))
+        yield 10, small(init, Line("Const", 24, BIT))
+        yield 10, small(init, next_nid=24)
+        yield 11, small(Line("State", 23, WORD, (TOP,), 1, address=address))
+    yield from with_addresses(0, listing(words=39 * RECORD))
+    yield from with_addresses(9, listing(words=39 * RECORD - 1))
+
+
 BREAKS = {
     9: lambda s: setattr(s, "bads", 3),
     10: lambda s: setattr(s, "next", 17),
@@ -487,7 +530,8 @@ def drawn(seed, count):
             operands = [draw.randrange(place + 2) if seldom() else draw.choice(places) for places in fit]
             init = kind == "State" and draw.random() < 0.5
             name = (draw.choice((0, 1, 2)), draw.randrange(12), draw.randrange(7) if seldom() else draw.randrange(5))
-            s.stored.append(Line(kind, nid, 4 if seldom() else sort, operands, int(init) if kind == "State" else draw.randrange(2), name))
+            line = Line(kind, nid, 4 if seldom() else sort, operands, int(init) if kind == "State" else draw.randrange(2), name)
+            s.stored.append(line.addressed(ADDRESS_OR_NONE[nid % len(ADDRESS_OR_NONE)]))
             nid += 1 if seldom() else 2 if init else draw.choice((1, 1, 3))
         s.lines = len(s.stored)
         s.next = nid - seldom()
@@ -508,6 +552,9 @@ def cases():
         yield s
     yield from every_sort()
     yield from drawn(1, 300)
+    for number, s in addressed():
+        assert refusal(s) == number, (number, refusal(s), [line.given for line in s.stored])
+        yield s
 
 
 #
@@ -520,14 +567,14 @@ def commands():
     records, counts, roles = {}, None, [0] * 79
     for s in cases():
         for place, line in enumerate(s.stored):
-            if records.get(place, (0,) * 10) != line.given:
+            if records.get(place, NO_RECORD) != line.given:
                 records[place] = line.given
                 yield (1, place, *line.given), None
         # What stands after a start's records is left by those before it: `Start.line` reads 0 there, so no count may reach it.
         for place in range(len(s.stored), min(s.lines, WORDS // RECORD)):
-            if records.get(place, (0,) * 10) != (0,) * 10:
-                records[place] = (0,) * 10
-                yield (1, place, *(0,) * 10), None
+            if records.get(place, NO_RECORD) != NO_RECORD:
+                records[place] = NO_RECORD
+                yield (1, place, *NO_RECORD), None
         wanted = (s.lines, s.next, s.names, s.edges, s.dispatches, s.bads)
         if counts != wanted:
             counts = wanted

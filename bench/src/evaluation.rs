@@ -16,7 +16,7 @@ extern "C" {
     ) -> u64;
 }
 
-const LINE: usize = 4; // words
+const LINE: usize = 5; // words
 const MOST_LINES: usize = 4096;
 const ROUNDS: usize = 20; // of all questions in one measurement, since a call may take microseconds
 const FLAG: usize = 38;
@@ -54,10 +54,9 @@ impl Questions {
         self.list.len() / LINE
     }
 
-    // Gives the place of a line that is put last.
-    fn push(&mut self, kind: u64, sort: u64, operands: [u64; 3]) -> u64 {
-        self.list.push(kind | sort << 8);
-        self.list.extend(operands);
+    // Gives the place of a line that is put last, without an address.
+    fn push(&mut self, kind: u64, sort: u64, [a, b, c]: [u64; 3]) -> u64 {
+        self.list.extend([kind | sort << 8, a, b, c, 0]);
         self.lines() as u64 - 1
     }
 

@@ -23,7 +23,7 @@ extern "C" {
 }
 
 const MOST_LINES: usize = 1_048_576;
-const LINE: usize = 4; // words
+const LINE: usize = 5; // words
 const MOST_TEXT: usize = 60; // bytes of a line
 const MOST_NAME: usize = 33; // bytes of a bad line's name
 const FIRST: u64 = 20; // the identifier at place 0
@@ -88,7 +88,7 @@ fn start(list: &mut [u64]) {
     let constants = [(CONST, 1, 0), (CONST, 1, 1), (CONST, 2, 0), (CONST, 2, 1)];
     let states = [2; 31].into_iter().chain([3, 3, 2, 1]).map(|sort| (STATE, sort, 0));
     for (place, (kind, sort, imm)) in constants.into_iter().chain(states).enumerate() {
-        let line = [(FIRST + place as u64) << 32 | sort << 8 | kind, imm, 0, 0];
+        let line = [(FIRST + place as u64) << 32 | sort << 8 | kind, imm, 0, 0, 0];
         list[place * LINE..(place + 1) * LINE].copy_from_slice(&line);
     }
 }

@@ -5,7 +5,7 @@ use Sort::*;
 
 const MOST_LINES: usize = 4096;
 const MOST_VISITS: u64 = 100_000;
-const LINE: usize = 4; // words
+const LINE: usize = 5; // words
 const ILL_SORTED: u64 = 17;
 const TOO_MANY_VISITS: u64 = 18;
 const UNFIT: u64 = 19;
@@ -102,7 +102,7 @@ fn srl(a: u64, b: u64) -> u64 {
 
 impl Line {
     fn of(words: &[u64]) -> Option<Line> {
-        let (kind, sort, init) = (words[0] & 255, Sort::of(words[0] >> 8 & 255), words[0] >> 24 & 255 != 0);
+        let (kind, sort, init) = (words[0] & 255, Sort::of(words[0] >> 8 & 255), words[0] >> 24 & 15 != 0);
         let (a, b, c) = (words[1] as usize, words[2] as usize, words[3] as usize);
         let unsorted = |operator, carries| Some(Line { operator, sort: Word, carries });
         let sorted = |operator| sort.map(|sort| Line { operator, sort, carries: Some(sort) });

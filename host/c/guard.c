@@ -67,9 +67,10 @@ int shorten(int n, size_t length) {
 }
 
 void map(void) {
-    size_t page = (size_t)sysconf(_SC_PAGESIZE), bytes = (MOST_BYTES + page - 1) / page * page;
+    size_t page = (size_t)sysconf(_SC_PAGESIZE);
     int n;
     for (n = 0; n < AREAS; n++) {
+        size_t most = n == LIST ? LIST_BYTES : MOST_BYTES, bytes = (most + page - 1) / page * page;
         unsigned char *at = (unsigned char *)mmap(NULL, bytes + 2 * page, PROT_NONE, MAP_PRIVATE | MAP_ANONYMOUS, -1, 0);
         if (at == MAP_FAILED || mprotect(at + page, bytes, PROT_READ | PROT_WRITE) != 0) {
             perror("guard_test");
@@ -95,7 +96,7 @@ uint64_t *words(int n) {
 }
 
 void put(size_t place, uint64_t first, uint64_t a, uint64_t b, uint64_t c) {
-    uint64_t line[LANTHANUMBAT_LINE] = {first, a, b, c};
+    uint64_t line[LANTHANUMBAT_LINE] = {first | below(16) << 28, a, b, c, number()};
     if ((place + 1) * LANTHANUMBAT_LINE <= areas[LIST].length)
         memcpy(words(LIST) + place * LANTHANUMBAT_LINE, line, sizeof line);
 }
@@ -105,9 +106,9 @@ void start(void) {
     uint64_t state[LANTHANUMBAT_STATE] = {39, 59};
     size_t n;
     for (n = 0; n < 4; n++)
-        put(n, LANTHANUMBAT_HEAD(20 + n, 1, 1 + n / 2, 0, 0), n % 2, 0, 0);
+        put(n, LANTHANUMBAT_HEAD(20 + n, 1, 1 + n / 2, 0, 0, 0), n % 2, 0, 0);
     for (n = 4; n < 39; n++)
-        put(n, LANTHANUMBAT_HEAD(20 + n, 19, n < 35 ? 2 : sorts[n - 35], 0, 0), 0, 0, 0);
+        put(n, LANTHANUMBAT_HEAD(20 + n, 19, n < 35 ? 2 : sorts[n - 35], 0, 0, 0), 0, 0, 0);
     for (n = 0; n < 4; n++)
         state[ROLES + n] = n;
     for (n = 4; n < 7; n++)
@@ -117,6 +118,25 @@ void start(void) {
         state[ROLES + 7 + n] = state[ROLES + 38 + n] = 3 + n;
     state[ROLES + 73] = state[ROLES + 74] = 3;
     memcpy(areas[STATE].at, state, (areas[STATE].length < LANTHANUMBAT_STATE ? areas[STATE].length : LANTHANUMBAT_STATE) * 8);
+}
+
+void other_addresses(void) {
+    size_t n;
+    for (n = 0; n + LANTHANUMBAT_LINE <= areas[LIST].length; n += LANTHANUMBAT_LINE) {
+        words(LIST)[n] ^= below(16) << 28;
+        words(LIST)[n + 4] = number();
+    }
+}
+
+int addressed(uint64_t from, uint64_t to, uint64_t mark, uint64_t address) {
+    if (from < to && to > areas[LIST].length / LANTHANUMBAT_LINE)
+        return 0;
+    for (; from < to; from++) {
+        const uint64_t *line = words(LIST) + from * LANTHANUMBAT_LINE;
+        if ((line[0] >> 28 & 15) != mark || line[4] != address)
+            return 0;
+    }
+    return 1;
 }
 
 void keep(int after) {
@@ -138,9 +158,14 @@ int same(int n, size_t from, size_t to) {
 }
 
 int all_same(void) {
-    int n, yes = 1;
-    for (n = 0; n < AREAS; n++)
-        yes &= same(n, 0, areas[n].length);
+    return all_same_but(AREAS, AREAS);
+}
+
+int all_same_but(int n, int m) {
+    int k, yes = 1;
+    for (k = 0; k < AREAS; k++)
+        if (k != n && k != m)
+            yes &= same(k, 0, areas[k].length);
     return yes;
 }
 

@@ -8,13 +8,13 @@ enum {
     LIST, NAMES, EDGES, DISPATCHES, BADS, STATE, HOST, OUT, CALLS, SEQUENTIALS, FLAGS, DYNAMICS, USED, FLOW, VALUES, CELLS, VALUE, VISITS, AREAS
 };
 enum { LINES_USED, NEXT_NID, NAMES_USED, EDGES_USED, DISPATCHES_USED, BADS_USED, ROLES };
-enum { LINES = 120, MOST_BYTES = 4096, NUMBERS = 20 };
+enum { LINES = 120, LIST_BYTES = LINES * LANTHANUMBAT_LINE * 8, MOST_BYTES = 4096, NUMBERS = 20 };
 
 /* An area: its elements' size, how many are lent, and where they stand, with a copy of them and what they were before. From `start` on up to
-   where they stand there are guard bytes. */
+   where they stand there are guard bytes. The list has up to LIST_BYTES, which is more than the other areas have. */
 struct area {
     size_t size, length;
-    unsigned char *start, *end, *at, before[MOST_BYTES], after[MOST_BYTES];
+    unsigned char *start, *end, *at, before[LIST_BYTES], after[LIST_BYTES];
 };
 
 extern struct area areas[AREAS];
@@ -40,17 +40,24 @@ void fill(int n);
 /* An area's elements. */
 uint64_t *words(int n);
 
-/* Puts a line, and the listing's start, as far as there is room. */
+/* Puts a line, and the listing's start, as far as there is room. Each line has an address or none, at random. */
 void put(size_t place, uint64_t first, uint64_t a, uint64_t b, uint64_t c);
 void start(void);
+
+/* Gives all lines other marks of an address and other addresses, on which nothing may depend. */
+void other_addresses(void);
+
+/* Whether the lines from one place up to another have this mark of an address and this last word. */
+int addressed(uint64_t from, uint64_t to, uint64_t mark, uint64_t address);
 
 /* Keeps what all areas hold, as before a call or after one; restores what they held before. */
 void keep(int after);
 void restore(void);
 
-/* Whether the elements of an area, and those of all areas, are as they were before. */
+/* Whether the elements of an area, those of all areas, and those of all areas but two are as they were before. */
 int same(int n, size_t from, size_t to);
 int all_same(void);
+int all_same_but(int n, int m);
 
 /* Whatever a call gives, the bytes before each area must be guard bytes still. */
 void only_inside(void);

@@ -1,6 +1,6 @@
 /* Evaluations on random and broken storage. A good list, broken in a known way or not at all, must have the answer that goes with it; whatever
    else is broken, the answer must be one of the evaluation's, nothing but the value and the visits may change, and these only where it is 0. A
-   repeat must give the same. */
+   repeat, on lines with other addresses, must give the same. */
 #include "guard.h"
 
 enum { BIT = 1, WORD, MEMORY, BYTE = 11, NO_SORT = 4 };
@@ -68,10 +68,10 @@ static uint64_t operand(const struct shape *s, int n) {
     return number();
 }
 
-/* Names and identifiers are any, and so is the sort of a kind that has none of its own. */
+/* Names, identifiers and addresses are any, and so is the sort of a kind that has none of its own. */
 static void append(const struct shape *s) {
     uint64_t kind = s->kind + below(s->last - s->kind + 1), sort = s->sort ? s->sort : below(256), a = operand(s, 0), b = operand(s, 1);
-    put(lines, lanthanumbat_head(draw() >> 32, kind, sort, below(256), s->init), a, b, operand(s, 2));
+    put(lines, lanthanumbat_head(draw() >> 32, kind, sort, below(256), s->init, 0), a, b, operand(s, 2));
     sorts[lines++] = s->value;
 }
 
@@ -82,7 +82,7 @@ static void tower(void) {
     append(&sum);
     for (n = TOWER + below(MORE_TOWER); n > 0; n--) {
         append(&sum);
-        put(lines - 1, lanthanumbat_head(0, ADD, 0, 0, 0), lines - 2, lines - 2, 0);
+        put(lines - 1, lanthanumbat_head(0, ADD, 0, 0, 0, 0), lines - 2, lines - 2, 0);
     }
 }
 
@@ -133,9 +133,9 @@ static void break_fit(void) {
     case 1: said = LANTHANUMBAT_BENCH_LINES + 1 + (size_t)(below(2) ? below(3) : draw() >> 1); break;
     case 2: asked = (size_t)(below(2) ? lines + below(3) : UINT64_MAX - below(3)); break;
     case 3: asked = (size_t)pick(below(2) ? MEMORY : BYTE); break;
-    case 4: put(place, lanthanumbat_head(0, below(2) ? 0 : NO_KIND + below(99), WORD, 0, 0), 0, 0, 0); break;
-    case 5: put(place, lanthanumbat_head(0, INPUT, below(2) ? 0 : NO_SORT + below(7), 0, 0), 0, 0, 0); break;
-    default: put(place, lanthanumbat_head(0, NEXT, BIT, 0, 0), A_BIT, below(2) ? place + below(3) : number() | UINT64_C(1) << 32, 0);
+    case 4: put(place, lanthanumbat_head(0, below(2) ? 0 : NO_KIND + below(99), WORD, 0, 0, 0), 0, 0, 0); break;
+    case 5: put(place, lanthanumbat_head(0, INPUT, below(2) ? 0 : NO_SORT + below(7), 0, 0, 0), 0, 0, 0); break;
+    default: put(place, lanthanumbat_head(0, NEXT, BIT, 0, 0, 0), A_BIT, below(2) ? place + below(3) : number() | UINT64_C(1) << 32, 0);
     }
 }
 
@@ -147,7 +147,7 @@ static void break_rule(void) {
     };
     size_t n = below(sizeof wrong / sizeof *wrong);
     asked = FIRST_LINES - 1 + (size_t)below(lines - FIRST_LINES + 1);
-    put(asked, lanthanumbat_head(0, wrong[n].kind, wrong[n].sort, 0, 0), wrong[n].a, wrong[n].b, wrong[n].c);
+    put(asked, lanthanumbat_head(0, wrong[n].kind, wrong[n].sort, 0, 0, 0), wrong[n].a, wrong[n].b, wrong[n].c);
 }
 
 /* Breaks a good call or not. Gives the number that it must be refused with, or 0. */
@@ -210,15 +210,6 @@ static uint64_t evaluate(void) {
                                  asked, words(VALUE), words(VISITS));
 }
 
-/* Nothing but the value and the visits changed. */
-static int only_the_answer(void) {
-    int n, yes = 1;
-    for (n = 0; n < AREAS; n++)
-        if (n != VALUE && n != VISITS)
-            yes &= same(n, 0, areas[n].length);
-    return yes;
-}
-
 /* One call, over any numbers where the value and the visits go. */
 static uint64_t try_evaluation(void) {
     uint64_t refusal;
@@ -231,7 +222,7 @@ static uint64_t try_evaluation(void) {
     only_inside();
     if (refusal != 0 && refusal != ILL_SORTED && refusal != TOO_MANY_VISITS && refusal != UNFIT)
         fail("no number of an evaluation");
-    if (refusal != 0 ? !all_same() : !only_the_answer())
+    if (refusal != 0 ? !all_same() : !all_same_but(VALUE, VISITS))
         fail("an evaluation changed what it should not");
     if (refusal == 0 && (*words(VISITS) == 0 || *words(VISITS) > LANTHANUMBAT_MOST_VISITS))
         fail("an evaluation took no visit or too many");
@@ -241,6 +232,7 @@ static uint64_t try_evaluation(void) {
 static uint64_t try_twice(unsigned long *by_number) {
     uint64_t refusal = try_evaluation(), value = *words(VALUE), visits = *words(VISITS);
     by_number[refusal < NUMBERS ? refusal : 0]++;
+    other_addresses();
     if (try_evaluation() != refusal || (refusal == 0 && (*words(VALUE) != value || *words(VISITS) != visits)))
         fail("an evaluation gives another answer the second time");
     return refusal;

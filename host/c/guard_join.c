@@ -1,5 +1,6 @@
 /* Joins of random and broken storage. A good join, broken in known ways or not at all, must have the answer that goes with them, and append
-   what was measured; whatever else is broken, a refused join must change nothing, and an accepted one only what stands after the counts. */
+   what was measured; whatever else is broken, a refused join must change nothing, and an accepted one only what stands after the counts. No line
+   that a join appends has an address. */
 #include "guard.h"
 
 #include <stdio.h>
@@ -11,7 +12,7 @@ enum { CONST = 1, ADD = 4, ULT = 12, ITE = 14, EQ, AND, NOT = 18, STATE_LINE, NE
 enum { START = 39, FLAG = 38, MORE_LINES = 20, MOST_EDGES = 5, MOST_DISPATCHES = 3, MOST_FLAGS = 6, NAME_BYTES = 40, NOWHERE = 777 };
 static const uint64_t MOST_NID = 2149580800u;
 
-static unsigned long known[NUMBERS], unknown[NUMBERS];
+static unsigned long known[NUMBERS], unknown[NUMBERS], joined_lines;
 
 /* A call's own numbers. */
 struct asked {
@@ -77,7 +78,7 @@ static void more_lines(void) {
         sorts[lines] = lines < 2 || lines == FLAG ? BIT : lines == 35 || lines == 36 ? MEMORY : WORD;
     for (; lines < START + MORE_LINES && below(12); lines++) {
         size_t n = below(sizeof some / sizeof *some);
-        put(lines, LANTHANUMBAT_HEAD(nid, some[n].kind, some[n].sort, 0, some[n].init), some[n].a, some[n].b, some[n].c);
+        put(lines, LANTHANUMBAT_HEAD(nid, some[n].kind, some[n].sort, 0, some[n].init, 0), some[n].a, some[n].b, some[n].c);
         sorts[lines] = some[n].value;
         nid += 1 + some[n].init;
     }
@@ -387,6 +388,9 @@ static void only_what_a_join_appends(void) {
     if (!only_between(LIST, was[LINES_USED] * LANTHANUMBAT_LINE, is[LINES_USED] * LANTHANUMBAT_LINE) ||
         !only_between(NAMES, was[NAMES_USED], is[NAMES_USED]) || !only_between(SEQUENTIALS, used, *number_in(USED)))
         fail("an accepted join wrote before its count or past what it appended");
+    if (!addressed(was[LINES_USED], is[LINES_USED], 0, 0))
+        fail("an accepted join gave a line an address");
+    joined_lines += is[LINES_USED] - was[LINES_USED];
     if (!same(STATE, EDGES_USED, areas[STATE].length))
         fail("an accepted join changed a role or another count");
     for (n = 0; n < sizeof given / sizeof *given; n++)
@@ -482,6 +486,7 @@ void joins_seen(long rounds) {
     unsigned long least = rounds < 10000 ? 0 : (unsigned long)rounds / 100;
     report("joins broken in known ways", known);
     report("joins on random and broken storage", unknown);
-    if (!failed && !(often(known, least) && often(unknown, least)))
+    printf("lines of joins, without an address: %lu\n", joined_lines);
+    if (!failed && !(often(known, least) && often(unknown, least) && joined_lines >= least))
         fail("an answer of joins is rare");
 }

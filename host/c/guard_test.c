@@ -1,7 +1,7 @@
 /* Random and broken storage through the library. Every area ends where memory that must not be touched begins, so that an access past its end
    ends the program, and has bytes before it that must stay as they are. A refused call must change nothing, an accepted one only what stands
-   after the counts, and many calls in one must do what they do one by one. guard_test [ROUNDS [SEED]]; ends with status 1 where something
-   fails. */
+   after the counts, and many calls in one must do what they do one by one. Each line that a lowering appends must have the address of its call;
+   nothing may depend on the addresses that the other lines have. guard_test [ROUNDS [SEED]]; ends with status 1 where something fails. */
 #include "guard.h"
 
 #include <stdio.h>
@@ -10,7 +10,7 @@
 
 enum { KINDS = 50, SEVERAL = 6 };
 
-static unsigned long lowerings[NUMBERS], others[NUMBERS];
+static unsigned long lowerings[NUMBERS], others[NUMBERS], addressed_lines, addresses_found[2];
 
 static void call(uint64_t *at) {
     at[0] = number();
@@ -26,7 +26,7 @@ static void call(uint64_t *at) {
 static void prepare(void) {
     int n;
     size_t k;
-    lend(LIST, below(8) ? (39 + below(LINES - 39)) * LANTHANUMBAT_LINE + below(4) : below(200));
+    lend(LIST, below(8) ? (39 + below(LINES - 39)) * LANTHANUMBAT_LINE + below(LANTHANUMBAT_LINE) : below(200));
     lend(NAMES, below(120));
     lend(EDGES, below(30));
     lend(DISPATCHES, below(8));
@@ -75,8 +75,22 @@ static void only_after_the_counts(void) {
 
 #define LENT words(LIST), areas[LIST].length, areas[NAMES].at, areas[NAMES].length, words(EDGES), areas[EDGES].length, words(DISPATCHES), areas[DISPATCHES].length, words(BADS), areas[BADS].length, words(STATE), areas[STATE].length
 
+static uint64_t lines_in_use(void) {
+    return areas[STATE].length > 0 ? words(STATE)[LINES_USED] : 0;
+}
+
+/* The lines from a place on, which an accepted call appended, have its address. */
+static void has_address(uint64_t from, uint64_t address) {
+    if (!addressed(from, lines_in_use(), 1, address))
+        fail("a line has not the address of the call that appended it");
+    addressed_lines += lines_in_use() - from;
+}
+
 static uint64_t lower(const uint64_t *c) {
-    return lanthanumbat_lower(LENT, c[0], c[1], c[2], c[3], c[4], c[5], (size_t)c[6]);
+    uint64_t from = lines_in_use(), refusal = lanthanumbat_lower(LENT, c[0], c[1], c[2], c[3], c[4], c[5], (size_t)c[6]);
+    if (refusal == 0)
+        has_address(from, c[0]);
+    return refusal;
 }
 
 static void try_lower(void) {
@@ -115,18 +129,27 @@ static void try_lower_all(void) {
             fail("many calls in one leave something else than one by one");
 }
 
+static uint64_t print(size_t lines, size_t from, size_t count, uint64_t *written) {
+    return lanthanumbat_print(words(LIST), areas[LIST].length, lines, areas[HOST].at, areas[HOST].length, areas[NAMES].at, areas[NAMES].length, from, count, areas[OUT].at, areas[OUT].length, written);
+}
+
 static void try_print(void) {
-    uint64_t written = 99, refusal;
+    uint64_t written = 99, again = 99, refusal;
     size_t lines = below(4) && areas[STATE].length > 0 ? (size_t)words(STATE)[LINES_USED] : (size_t)number();
     size_t from = (size_t)(below(8) ? below(lines ? lines : 1) : number()), count = (size_t)(below(8) ? below(lines ? lines : 1) : number());
     keep(0);
-    refusal = lanthanumbat_print(words(LIST), areas[LIST].length, lines, areas[HOST].at, areas[HOST].length, areas[NAMES].at, areas[NAMES].length, from, count, areas[OUT].at, areas[OUT].length, &written);
+    refusal = print(lines, from, count, &written);
     only_inside();
     others[refusal < NUMBERS ? refusal : 0]++;
     if (refusal != 0 && refusal != 9 && refusal != 11 && refusal != 14)
         fail("no number of printing");
     if (refusal ? written != 0 || !all_same() : written > areas[OUT].length || !same(OUT, (size_t)written, areas[OUT].length))
         fail("printing wrote what it should not");
+    keep(1);
+    restore();
+    other_addresses();
+    if (print(lines, from, count, &again) != refusal || again != written || memcmp(areas[OUT].at, areas[OUT].after, areas[OUT].length) != 0)
+        fail("what is printed depends on addresses");
 }
 
 static void try_start(void) {
@@ -137,6 +160,39 @@ static void try_start(void) {
     others[refusal < NUMBERS ? refusal : 0]++;
     if ((refusal != 0 && (refusal < 9 || refusal > 13)) || !all_same())
         fail("the check of a start");
+    other_addresses();
+    if (check_start() != refusal)
+        fail("the check of a start depends on addresses");
+}
+
+/* Whether there is a line at the place, of so many, and it has an address. */
+static int has_any_address(size_t lines, size_t place) {
+    return place < lines && place < areas[LIST].length / LANTHANUMBAT_LINE && (words(LIST)[place * LANTHANUMBAT_LINE] >> 28 & 15) != 0;
+}
+
+/* The address of any line or of none, often where the words end, over any number where it goes. */
+static void try_address(void) {
+    size_t end = areas[LIST].length / LANTHANUMBAT_LINE, lines = (size_t)(below(4) ? lines_in_use() : number());
+    size_t place = below(3) ? (size_t)below(LINES) : below(2) ? end - (size_t)below(2) : (size_t)number();
+    uint64_t found;
+    lend(VALUE, 1);
+    fill(VALUE);
+    keep(0);
+    found = lanthanumbat_address(words(LIST), areas[LIST].length, lines, place, words(VALUE));
+    only_inside();
+    if (has_any_address(lines, place) ? found != 1 || *words(VALUE) != words(LIST)[place * LANTHANUMBAT_LINE + 4] || !all_same_but(VALUE, VALUE)
+                                      : found != 0 || !all_same())
+        fail("the address of a line");
+    addresses_found[found == 1]++;
+}
+
+/* A hundredth of the rounds is often; few rounds show nothing. */
+static void addresses_seen(long rounds) {
+    unsigned long least = rounds < 10000 ? 0 : (unsigned long)rounds / 100;
+    printf("lines with the address of their call: %lu\n", addressed_lines);
+    printf("addresses asked for: %lu found, %lu not\n", addresses_found[1], addresses_found[0]);
+    if (!failed && (addressed_lines < least || addresses_found[0] < least || addresses_found[1] < least))
+        fail("addresses are rare");
 }
 
 int main(int argc, char **argv) {
@@ -148,6 +204,7 @@ int main(int argc, char **argv) {
         prepare();
         try_print();
         try_start();
+        try_address();
         try_lower_all();
         restore();
         try_lower();
@@ -156,6 +213,7 @@ int main(int argc, char **argv) {
     }
     report("lowerings by refusal", lowerings);
     report("prints and starts", others);
+    addresses_seen(rounds);
     joins_seen(rounds);
     evaluations_seen(rounds);
     puts(failed ? "failed" : "ok");

@@ -1,5 +1,5 @@
-/* The header from C: the first word of a line, then a start made with it, lowered, joined, printed, evaluated and refused. Writes what fails,
-   and ends with status 1 where something does. */
+/* The header from C: the first word of a line, then a start made with it, lowered, joined, printed, evaluated and refused, and the addresses of
+   its lines. Writes what fails, and ends with status 1 where something does. */
 #include "../lanthanumbat.h"
 
 #include <stdio.h>
@@ -27,10 +27,10 @@ static void expect(int line, const char *what, int holds) {
  */
 
 /* The macro is a constant expression. */
-static const uint64_t heads[] = {LANTHANUMBAT_HEAD(20, 1, 2, 0, 0), LANTHANUMBAT_HEAD(UINT64_MAX, 257, 258, 259, 256)};
-typedef char saturated_by_the_macro[LANTHANUMBAT_HEAD(0, 257, 0, 0, 0) == 255 ? 1 : -1];
+static const uint64_t heads[] = {LANTHANUMBAT_HEAD(20, 1, 2, 0, 0, 0), LANTHANUMBAT_HEAD(UINT64_MAX, 257, 258, 259, 256, 512)};
+typedef char saturated_by_the_macro[LANTHANUMBAT_HEAD(0, 257, 0, 0, 0, 0) == 255 ? 1 : -1];
 
-/* A number, and what a field of one byte, one of four and the mark of an init make of it. */
+/* A number, and what a field of one byte, one of four and the mark of an init or of an address make of it. */
 struct field {
     uint64_t number, byte, identifier, mark;
 };
@@ -58,10 +58,12 @@ static const struct field fields[] = {
     {UINT64_MAX, 255, UINT64_C(0xffffffff), 1},
 };
 
-static void same_head(const struct field *i, const struct field *k, const struct field *s, const struct field *a, const struct field *m) {
-    uint64_t wanted = i->identifier * UINT64_C(4294967296) + m->mark * 16777216 + a->byte * 65536 + s->byte * 256 + k->byte;
-    EXPECT(lanthanumbat_head(i->number, k->number, s->number, a->number, m->number) == wanted);
-    EXPECT(LANTHANUMBAT_HEAD(i->number, k->number, s->number, a->number, m->number) == wanted);
+static void same_head(const struct field *i, const struct field *k, const struct field *s, const struct field *a, const struct field *m,
+                      const struct field *h) {
+    uint64_t wanted =
+        i->identifier * UINT64_C(4294967296) + h->mark * 268435456 + m->mark * 16777216 + a->byte * 65536 + s->byte * 256 + k->byte;
+    EXPECT(lanthanumbat_head(i->number, k->number, s->number, a->number, m->number, h->number) == wanted);
+    EXPECT(LANTHANUMBAT_HEAD(i->number, k->number, s->number, a->number, m->number, h->number) == wanted);
 }
 
 static void test_heads(void) {
@@ -72,22 +74,25 @@ static void test_heads(void) {
         const struct field *f = &fields[n];
         for (m = 0; m < count; m++) { /* one field at n, the others at m */
             const struct field *g = &fields[m];
-            same_head(f, g, g, g, g);
-            same_head(g, f, g, g, g);
-            same_head(g, g, f, g, g);
-            same_head(g, g, g, f, g);
-            same_head(g, g, g, g, f);
+            same_head(f, g, g, g, g, g);
+            same_head(g, f, g, g, g, g);
+            same_head(g, g, f, g, g, g);
+            same_head(g, g, g, f, g, g);
+            same_head(g, g, g, g, f, g);
+            same_head(g, g, g, g, g, f);
         }
-        same_head(f, zero, zero, zero, zero);
+        same_head(f, zero, zero, zero, zero, zero);
+        same_head(zero, zero, zero, zero, zero, f);
     }
     EXPECT(heads[0] == UINT64_C(20) * UINT64_C(4294967296) + 2 * 256 + 1);
-    EXPECT(heads[1] == UINT64_C(0xffffffff01ffffff));
+    EXPECT(heads[1] == UINT64_C(0xffffffff11ffffff));
     /* arguments of other types, which are not constants either */
     {
         int kind = STATE, minus = -1;
         unsigned char sort = WORD;
-        EXPECT(LANTHANUMBAT_HEAD(FIRST, kind, sort, 0, 1) == lanthanumbat_head(20, 19, 2, 0, 1));
-        EXPECT(LANTHANUMBAT_HEAD(minus, kind, sort, 0, minus) == UINT64_C(0xffffffff01000213));
+        EXPECT(LANTHANUMBAT_HEAD(FIRST, kind, sort, 0, 1, 0) == lanthanumbat_head(20, 19, 2, 0, 1, 0));
+        EXPECT(LANTHANUMBAT_HEAD(minus, kind, sort, 0, minus, 0) == UINT64_C(0xffffffff01000213));
+        EXPECT(LANTHANUMBAT_HEAD(minus, kind, sort, 0, 0, minus) == UINT64_C(0xffffffff10000213));
     }
 }
 
@@ -115,10 +120,11 @@ static void put(size_t place, uint64_t first, uint64_t a, uint64_t b, uint64_t c
     line[1] = a;
     line[2] = b;
     line[3] = c;
+    line[4] = 0;
 }
 
 static void put_state(size_t place, uint64_t sort, uint64_t at, uint64_t length) {
-    put(place, lanthanumbat_head(FIRST + place, STATE, sort, 1, 0), 0, at, length);
+    put(place, lanthanumbat_head(FIRST + place, STATE, sort, 1, 0, 0), 0, at, length);
 }
 
 static void make_start(void) {
@@ -126,8 +132,8 @@ static void make_start(void) {
     size_t n;
     memset(&s, 0, sizeof s);
     for (n = 0; n < 2; n++) {
-        put(n, lanthanumbat_head(FIRST + n, CONST, BIT, 0, 0), n, 0, 0);
-        put(2 + n, lanthanumbat_head(FIRST + 2 + n, CONST, WORD, 0, 0), n, 0, 0);
+        put(n, lanthanumbat_head(FIRST + n, CONST, BIT, 0, 0, 0), n, 0, 0);
+        put(2 + n, lanthanumbat_head(FIRST + 2 + n, CONST, WORD, 0, 0, 0), n, 0, 0);
     }
     for (n = 4; n < 35; n++)
         put_state(n, WORD, 0, 8);
@@ -252,23 +258,36 @@ static void test_wrong_lines(void) {
     static const uint64_t over[] = {256, 512, UINT64_C(4294967296), UINT64_MAX - 511};
     const uint64_t nid = FIRST + START;
     size_t n;
-    EXPECT(one_more(lanthanumbat_head(nid, CONST, WORD, 0, 0), 7, 0, 0) == 0);
-    EXPECT(one_more(lanthanumbat_head(nid, STATE, WORD, 1, 1), 2, 0, 8) == 0);
-    EXPECT(one_more(lanthanumbat_head(nid, ITE, WORD, 0, 0), FLAG, 2, 3) == 0);
-    EXPECT(one_more(lanthanumbat_head(nid, BAD, 0, 0, 0), FLAG, 0, 0) == 0);
-    EXPECT(one_more(lanthanumbat_head(nid, 0, WORD, 0, 0), 7, 0, 0) == 11);
-    EXPECT(one_more(lanthanumbat_head(nid, 23, WORD, 0, 0), 7, 0, 0) == 11);
-    EXPECT(one_more(lanthanumbat_head(nid, CONST, 4, 0, 0), 7, 0, 0) == 11);
-    EXPECT(one_more(lanthanumbat_head(nid, STATE, WORD, 3, 0), 0, 0, 1) == 11);
-    EXPECT(one_more(lanthanumbat_head(nid, STATE, WORD, 1, 0), 0, 28, 1) == 11); /* past the host's area */
+    EXPECT(one_more(lanthanumbat_head(nid, CONST, WORD, 0, 0, 0), 7, 0, 0) == 0);
+    EXPECT(one_more(lanthanumbat_head(nid, STATE, WORD, 1, 1, 0), 2, 0, 8) == 0);
+    EXPECT(one_more(lanthanumbat_head(nid, ITE, WORD, 0, 0, 0), FLAG, 2, 3) == 0);
+    EXPECT(one_more(lanthanumbat_head(nid, BAD, 0, 0, 0, 0), FLAG, 0, 0) == 0);
+    EXPECT(one_more(lanthanumbat_head(nid, 0, WORD, 0, 0, 0), 7, 0, 0) == 11);
+    EXPECT(one_more(lanthanumbat_head(nid, 23, WORD, 0, 0, 0), 7, 0, 0) == 11);
+    EXPECT(one_more(lanthanumbat_head(nid, CONST, 4, 0, 0, 0), 7, 0, 0) == 11);
+    EXPECT(one_more(lanthanumbat_head(nid, STATE, WORD, 3, 0, 0), 0, 0, 1) == 11);
+    EXPECT(one_more(lanthanumbat_head(nid, STATE, WORD, 1, 0, 0), 0, 28, 1) == 11); /* past the host's area */
     for (n = 0; n < sizeof over / sizeof *over; n++) {
-        EXPECT(one_more(lanthanumbat_head(nid, CONST + over[n], WORD, 0, 0), 7, 0, 0) == 11);
-        EXPECT(one_more(lanthanumbat_head(nid, CONST, WORD + over[n], 0, 0), 7, 0, 0) == 11);
-        EXPECT(one_more(lanthanumbat_head(nid, STATE, WORD, 1 + over[n], 0), 0, 0, 1) == 11);
-        EXPECT(one_more(lanthanumbat_head(nid, STATE, WORD, 0, over[n]), START, 0, 0) == 11); /* the init is not lost */
-        EXPECT(one_more(lanthanumbat_head(nid, STATE, WORD, 0, over[n]), FLAG, 0, 0) == 12);
+        EXPECT(one_more(lanthanumbat_head(nid, CONST + over[n], WORD, 0, 0, 0), 7, 0, 0) == 11);
+        EXPECT(one_more(lanthanumbat_head(nid, CONST, WORD + over[n], 0, 0, 0), 7, 0, 0) == 11);
+        EXPECT(one_more(lanthanumbat_head(nid, STATE, WORD, 1 + over[n], 0, 0), 0, 0, 1) == 11);
+        EXPECT(one_more(lanthanumbat_head(nid, STATE, WORD, 0, over[n], 0), START, 0, 0) == 11); /* the init is not lost */
+        EXPECT(one_more(lanthanumbat_head(nid, STATE, WORD, 0, over[n], 0), FLAG, 0, 0) == 12);
     }
-    EXPECT(one_more(lanthanumbat_head(UINT64_C(4294967296) + nid, CONST, WORD, 0, 0), 7, 0, 0) == 10);
+    EXPECT(one_more(lanthanumbat_head(UINT64_C(4294967296) + nid, CONST, WORD, 0, 0, 0), 7, 0, 0) == 10);
+}
+
+/* Each half of byte 3 is a mark of its own, whatever it is but 0: a state has an init by the low one, and by the high one it has none. */
+static void test_marks(void) {
+    const uint64_t state = lanthanumbat_head(FIRST + START, STATE, WORD, 0, 0, 0);
+    uint64_t low, high;
+    for (low = 0; low < 16; low++)
+        for (high = 0; high < 16; high++) {
+            uint64_t first = state | high << 28 | low << 24;
+            EXPECT(one_more(first, 2, 0, 0) == 0);
+            EXPECT(one_more(first, START, 0, 0) == (low ? 11u : 0u)); /* an init at no earlier place */
+            EXPECT(one_more(first, FLAG, 0, 0) == (low ? 12u : 0u));  /* an init of another sort */
+        }
 }
 
 /*
@@ -291,9 +310,9 @@ static struct given g;
 static void put_nodes(void) {
     size_t n;
     for (n = MODE; n < ADDRESS; n++)
-        put(n, lanthanumbat_head(FIRST + n, STATE, BIT, 0, 0), 0, 0, 0);
-    put(NONE, lanthanumbat_head(FIRST + NONE, NOT, BIT, 0, 0), MODE, 0, 0);
-    put(ADDRESS, lanthanumbat_head(FIRST + ADDRESS, CONST, WORD, 0, 0), 65536, 0, 0);
+        put(n, lanthanumbat_head(FIRST + n, STATE, BIT, 0, 0, 0), 0, 0, 0);
+    put(NONE, lanthanumbat_head(FIRST + NONE, NOT, BIT, 0, 0, 0), MODE, 0, 0);
+    put(ADDRESS, lanthanumbat_head(FIRST + ADDRESS, CONST, WORD, 0, 0, 0), 65536, 0, 0);
     s.state[LINES_USED] = READY;
     s.state[NEXT_NID] = FIRST + READY;
 }
@@ -429,7 +448,7 @@ static void give_nothing(void) {
 /* Puts a line after those in use. Gives its place. */
 static size_t append(uint64_t kind, uint64_t sort, uint64_t a, uint64_t b, uint64_t c) {
     size_t place = (size_t)s.state[LINES_USED]++;
-    put(place, lanthanumbat_head(FIRST + place, kind, sort, 0, 0), a, b, c);
+    put(place, lanthanumbat_head(FIRST + place, kind, sort, 0, 0, 0), a, b, c);
     return place;
 }
 
@@ -487,7 +506,7 @@ static void test_evaluation(void) {
     give(X5, 8); /* the first record counts */
     EXPECT(comes_to(flow, 7, 3));
     with_init = append(STATE, WORD, ONE_WORD, 0, 0);
-    s.list[with_init * LANTHANUMBAT_LINE] |= 1 << 24;
+    s.list[with_init * LANTHANUMBAT_LINE] |= LANTHANUMBAT_HEAD(0, 0, 0, 0, 1, 0);
     EXPECT(comes_to(with_init, 0, 1)); /* the init is not used */
     byte = append(UEXT, BYTE, append(INPUT, BYTE, 0, 0, 0), 0, 0);
     give(byte - 1, 511);
@@ -550,7 +569,7 @@ static void test_unfit_lists(void) {
     const size_t most = LANTHANUMBAT_BENCH_LINES, words = sizeof many / sizeof *many, last = START + 4;
     size_t n;
     for (n = 0; n < words; n += LANTHANUMBAT_LINE)
-        many[n] = lanthanumbat_head(0, STATE, WORD, 0, 0);
+        many[n] = lanthanumbat_head(0, STATE, WORD, 0, 0, 0);
     give_nothing();
     EXPECT(evaluate_of(many, words, most, most - 1) == 0 && e.value == 0 && e.visits == 1);
     EXPECT(evaluate_of(many, words, most + 1, 0) == 19 && e.value == UNTOUCHED && e.visits == UNTOUCHED);
@@ -562,16 +581,174 @@ static void test_unfit_lists(void) {
     EXPECT(asked_refused(append(INPUT, BYTE, 0, 0, 0), 19)); /* neither a bit nor a word */
     EXPECT(asked_refused(append(NEXT, BIT, FLAG, FLAG, 0), 19));
     EXPECT(asked_refused(append(BAD, 0, FLAG, 0, 0), 19));
-    EXPECT(line_refused(lanthanumbat_head(0, 0, WORD, 0, 0), 0, 0, 0));
-    EXPECT(line_refused(lanthanumbat_head(0, BAD + 1, WORD, 0, 0), 0, 0, 0));
-    EXPECT(line_refused(lanthanumbat_head(0, CONST, 4, 0, 0), 0, 0, 0));
-    EXPECT(line_refused(lanthanumbat_head(0, NOT, WORD, 0, 0), last, 0, 0)); /* its own place */
-    EXPECT(line_refused(lanthanumbat_head(0, STATE, WORD, 0, 1), last, 0, 0));
-    EXPECT(!line_refused(lanthanumbat_head(0, STATE, WORD, 0, 1), FLAG, 0, 0)); /* another sort is not looked at here */
+    EXPECT(line_refused(lanthanumbat_head(0, 0, WORD, 0, 0, 0), 0, 0, 0));
+    EXPECT(line_refused(lanthanumbat_head(0, BAD + 1, WORD, 0, 0, 0), 0, 0, 0));
+    EXPECT(line_refused(lanthanumbat_head(0, CONST, 4, 0, 0, 0), 0, 0, 0));
+    EXPECT(line_refused(lanthanumbat_head(0, NOT, WORD, 0, 0, 0), last, 0, 0)); /* its own place */
+    EXPECT(line_refused(lanthanumbat_head(0, STATE, WORD, 0, 1, 0), last, 0, 0));
+    EXPECT(!line_refused(lanthanumbat_head(0, STATE, WORD, 0, 1, 0), FLAG, 0, 0)); /* another sort is not looked at here */
+    EXPECT(!line_refused(lanthanumbat_head(0, STATE, WORD, 0, 0, 1), last, 0, 0)); /* an address is no init */
     append(NEXT, BIT, FLAG, FLAG, 0);
     EXPECT(comes_to(X5, 0, 1));
     append(NOT, BIT, s.state[LINES_USED] - 1, 0, 0); /* of a line without a value */
     EXPECT(asked_refused(X5, 19));
+}
+
+/*
+ * The addresses of lines
+ */
+
+static uint64_t *line_at(size_t place) {
+    return &s.list[place * LANTHANUMBAT_LINE];
+}
+
+/* What the library says of a line in a list of so many words and lines. `found` is set to the address. */
+static uint64_t found;
+
+static uint64_t find(size_t list_words, size_t lines, size_t place) {
+    found = UNTOUCHED;
+    return lanthanumbat_address(s.list, list_words, lines, place, &found);
+}
+
+static uint64_t find_in_use(size_t place) {
+    return find(LINES * LANTHANUMBAT_LINE, (size_t)s.state[LINES_USED], place);
+}
+
+/* Whether the lines from one place up to another have this address, and whether they have none, by their words and by the library. */
+static int have_address(size_t from, size_t to, uint64_t address) {
+    size_t n;
+    for (n = from; n < to; n++)
+        if ((line_at(n)[0] >> 28 & 15) != 1 || line_at(n)[4] != address || find_in_use(n) != 1 || found != address)
+            return 0;
+    return from < to;
+}
+
+static int have_none(size_t from, size_t to) {
+    size_t n;
+    for (n = from; n < to; n++)
+        if ((line_at(n)[0] >> 28 & 15) != 0 || line_at(n)[4] != 0 || find_in_use(n) != 0 || found != UNTOUCHED)
+            return 0;
+    return from < to;
+}
+
+/* Whether these first lines are as they were before. */
+static int lines_stay(size_t lines) {
+    return memcmp(s.list, before.list, lines * LANTHANUMBAT_LINE * sizeof *s.list) == 0;
+}
+
+/* What the lines of a start are given: any mark, 0 among them, and an address. */
+static uint64_t start_mark(size_t place) {
+    return place % 16;
+}
+
+static uint64_t start_address(size_t place) {
+    return place % 3 ? UINT64_MAX - place : place;
+}
+
+/* A start with these marks and addresses, and lines after it that are not in use and have all bits set. */
+static void make_addressed_start(void) {
+    size_t n;
+    make_start();
+    for (n = 0; n < START; n++) {
+        line_at(n)[0] |= start_mark(n) << 28;
+        line_at(n)[4] = start_address(n);
+    }
+    memset(line_at(START), 0xff, (LINES - START) * LANTHANUMBAT_LINE * sizeof *s.list);
+    before = s;
+}
+
+static void test_lowered_addresses(void) {
+    static const uint64_t addresses[] = {0, 4, 65536, UINT64_C(1) << 32, UINT64_C(1) << 63, UINT64_MAX - 3, UINT64_MAX};
+    size_t n, lines = START;
+    make_addressed_start();
+    for (n = 0; n < sizeof addresses / sizeof *addresses; n++) {
+        EXPECT(lower(addresses[n], LUI, 5, 0, 0, 1, FLAG) == 0 && s.state[LINES_USED] == lines + 2);
+        EXPECT(have_address(lines, lines + 2, addresses[n]) && lines_stay(lines));
+        lines += 2;
+        before = s;
+        EXPECT(lower(addresses[n] + 4, SRLIW, 5, 5, 0, 0, FLAG) == 4 && unchanged());
+    }
+    s.state[EDGES_USED] = 0;
+    EXPECT(lower(43981, JALR, 1, 0, 0, 8, FLAG) == 0 && s.state[LINES_USED] == lines + 3); /* a link and a bad line */
+    EXPECT(have_address(lines, lines + 3, 43981) && lines_stay(lines));
+    EXPECT(check_start() == 0);
+}
+
+/* The calls of many in one, the last of which is refused: each line has the address of its own call. */
+static void test_addresses_of_many(void) {
+    static const uint64_t calls[] = {
+        UINT64_MAX, LUI, 5, 0, 0, 1, FLAG, 0, BLTU, 0, 5, 6, (uint64_t)-4, FLAG, 0, LUI, 6, 0, 0, 1, FLAG, 7, SRLIW, 5, 5, 0, 0, FLAG,
+    };
+    uint64_t refusal = 99;
+    make_addressed_start();
+    EXPECT(lower_all(calls, sizeof calls / sizeof *calls, &refusal) == 3 && refusal == 4 && s.state[LINES_USED] == START + 6);
+    EXPECT(have_address(START, START + 2, UINT64_MAX) && have_address(START + 2, START + 6, 0) && lines_stay(START));
+    EXPECT(memcmp(line_at(START + 6), &before.list[(START + 6) * LANTHANUMBAT_LINE],
+                  (LINES - START - 6) * LANTHANUMBAT_LINE * sizeof *s.list) == 0);
+}
+
+static void test_joined_addresses(void) {
+    make_join();
+    memset(line_at(READY), 0xff, (LINES - READY) * LANTHANUMBAT_LINE * sizeof *s.list);
+    line_at(PC_FLAG)[0] |= LANTHANUMBAT_HEAD(0, 0, 0, 0, 0, 1);
+    line_at(PC_FLAG)[4] = 65536;
+    before = s;
+    EXPECT(join() == 0 && have_none(READY, READY + 10) && lines_stay(READY));
+    EXPECT(prints(READY, 10, joined));
+    before = s;
+    EXPECT(lower(UINT64_MAX, LUI, 5, 0, 0, 1, s.flow) == 0 && have_address(READY + 10, READY + 12, UINT64_MAX) && lines_stay(READY + 10));
+    before = s;
+    g.dispatched = 0;
+    g.count = 1;
+    EXPECT(join() == 0 && have_none(READY + 12, READY + 13) && lines_stay(READY + 12));
+    EXPECT(have_address(PC_FLAG, PC_FLAG + 1, 65536) && have_none(DYNAMIC, PC_FLAG));
+    EXPECT(check_start() == 0);
+}
+
+/* What the start's lines have stays. It is neither printed nor evaluated nor checked. */
+static void test_addresses_of_a_start(void) {
+    static char plain[TEXT], addressed[TEXT];
+    uint64_t plain_bytes = 0, addressed_bytes = 0;
+    size_t n;
+    make_start();
+    EXPECT(print(0, START, plain, TEXT, &plain_bytes) == 0);
+    make_addressed_start();
+    EXPECT(check_start() == 0);
+    EXPECT(print(0, START, addressed, TEXT, &addressed_bytes) == 0);
+    EXPECT(plain_bytes > 0 && plain_bytes == addressed_bytes && memcmp(plain, addressed, (size_t)plain_bytes) == 0);
+    EXPECT(lower(65536, LUI, 5, 0, 0, 1, FLAG) == 0 && lower(65540, BLTU, 0, 5, 6, (uint64_t)-4, FLAG) == 0);
+    EXPECT(prints(START, 4, example) && lines_stay(START));
+    for (n = 0; n < START; n++)
+        if (start_mark(n))
+            EXPECT(find_in_use(n) == 1 && found == start_address(n));
+        else
+            EXPECT(find_in_use(n) == 0 && found == UNTOUCHED);
+    give_nothing();
+    give(X5, 7);
+    EXPECT(comes_to((size_t)s.state[FLOW_OF_X5], 7, 3) && comes_to(START + 2, 0, 3));
+}
+
+/* Where there is no such line, or the words do not reach over it, the number stays, whatever stands there. */
+static void test_places_without_a_line(void) {
+    const size_t words = LINES * LANTHANUMBAT_LINE, most = (size_t)-1;
+    make_addressed_start();
+    line_at(START - 1)[0] |= LANTHANUMBAT_HEAD(0, 0, 0, 0, 0, 1);
+    EXPECT(find(words, START, START - 1) == 1 && found != UNTOUCHED);
+    EXPECT(find(words, START, START) == 0 && found == UNTOUCHED);
+    EXPECT(find(words, START, most) == 0 && found == UNTOUCHED);
+    EXPECT(find(words, START - 1, START - 1) == 0 && found == UNTOUCHED);
+    EXPECT(find(words, 0, 0) == 0 && found == UNTOUCHED);
+    EXPECT(find(words, LINES, LINES - 1) == 1 && found == UINT64_MAX);
+    EXPECT(find(words, most, LINES - 1) == 1 && found == UINT64_MAX);
+    EXPECT(find(words, most, LINES) == 0 && found == UNTOUCHED);
+    EXPECT(find(words, most, most - 1) == 0 && found == UNTOUCHED);
+    EXPECT(find(words, most, most / LANTHANUMBAT_LINE) == 0 && found == UNTOUCHED);
+    EXPECT(find(words, most, most / LANTHANUMBAT_LINE + 1) == 0 && found == UNTOUCHED); /* times 5 it is 4 modulo 2^64 */
+    EXPECT(find(START * LANTHANUMBAT_LINE, START, START - 1) == 1 && found != UNTOUCHED);
+    EXPECT(find(START * LANTHANUMBAT_LINE - 1, START, START - 1) == 0 && found == UNTOUCHED);
+    EXPECT(find(START * LANTHANUMBAT_LINE - 1, most, START - 1) == 0 && found == UNTOUCHED);
+    EXPECT(find(LANTHANUMBAT_LINE - 1, 1, 0) == 0 && found == UNTOUCHED);
+    EXPECT(find(0, most, 0) == 0 && found == UNTOUCHED);
 }
 
 int main(void) {
@@ -580,12 +757,18 @@ int main(void) {
     test_many();
     test_printing();
     test_wrong_lines();
+    test_marks();
     test_joins();
     test_refused_joins();
     test_evaluation();
     test_memory();
     test_refused_visits();
     test_unfit_lists();
+    test_lowered_addresses();
+    test_addresses_of_many();
+    test_joined_addresses();
+    test_addresses_of_a_start();
+    test_places_without_a_line();
     puts(failed ? "failed" : "ok");
     return failed;
 }

@@ -78,7 +78,7 @@ static size_t lines;
 static void append(const struct line *l, uint64_t last) {
     uint64_t *words = &list[lines++ * LANTHANUMBAT_LINE];
     size_t n;
-    words[0] = lanthanumbat_head(0, l->kind, l->sort, 0, 0);
+    words[0] = lanthanumbat_head(0, l->kind, l->sort, 0, 0, 0);
     for (n = 0; n < 3; n++)
         words[1 + n] = l->operands[n] == LAST ? last : l->operands[n];
 }

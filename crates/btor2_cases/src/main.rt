@@ -1,13 +1,15 @@
 // Runs the lent list, the lookup and the names on the commands of standard input, a line each:
-//   1 PLACE NID KIND SORT OP1 OP2 OP3 IMM AREA AT LEN   puts a record into a list of four records and three words
-//   2 PLACE                                             gets one
-//   3 LINES PLACE                                       looks a place up
-//   4 AREA AT LEN                                       finds a name in `host` or in `own area`
+//   1 PLACE NID KIND SORT OP1 OP2 OP3 IMM AREA AT LEN MARK ADDRESS   puts a record into a list of four records and three words
+//   2 PLACE                                                          gets one
+//   3 LINES PLACE                                                    looks a place up
+//   4 AREA AT LEN                                                    finds a name in `host` or in `own area`
+//   5 LINES PLACE                                                    tells the address of the line at a place
 use btor2::MaybeSort;
 use btor2::Name;
 use btor2::NodeRef;
 use btor2::get_sort;
 use btor2_list::Found;
+use btor2_list::MaybeAddress;
 use cases::read_decimal;
 use cases::read_record;
 use cases::show;
@@ -18,7 +20,7 @@ use libc::STDOUT_FILENO;
 fn main() {
     let mut buffer = [0u8; 65536];
     let n = io::read_full(STDIN_FILENO, &mut buffer);
-    let mut list = [0u64; 19];
+    let mut list = [0u64; 23];
     run(&buffer[..n], &mut list);
 }
 
@@ -47,7 +49,10 @@ fn run_line(text: &[u8], at: usize, list: &mut [u64]) -> usize {
     if which == 3 {
         return run_look(text, from, list);
     }
-    run_name(text, from)
+    if which == 4 {
+        return run_name(text, from);
+    }
+    run_address(text, from, list)
 }
 
 fn run_put(text: &[u8], at: usize, list: &mut [u64]) -> usize {
@@ -102,4 +107,16 @@ fn run_name(text: &[u8], at: usize) -> usize {
     );
     io::write_all(STDOUT_FILENO, b"]\n");
     len.next
+}
+
+fn run_address(text: &[u8], at: usize, list: &[u64]) -> usize {
+    let lines = read_decimal(text, at);
+    let place = read_decimal(text, lines.next);
+    match btor2_list::address_at(list, lines.value as usize, NodeRef(place.value as usize)) {
+        MaybeAddress::Address(address) => show(address, b"\n"),
+        MaybeAddress::NoAddress => {
+            io::write_all(STDOUT_FILENO, b"no address\n");
+        }
+    }
+    place.next
 }

@@ -7,6 +7,7 @@ use borrow.Author.Tests.{ltb-true}
 use lib.Dec.{ltb}
 use Rattle.btor2.specs.declared.Name.{Name}
 use Rattle.btor2.specs.Op.{Op, const, read, write, bin, uext, ite, eq, and, or, not, state, stateInit, next, input, bad, unknown}
+use Rattle.btor2_list.specs.declared.MaybeAddress.{MaybeAddress}
 use Rattle.btor2_list.specs.Node.{noName, row, lineOf}
 use Rattle.btor2_list.proofs.Stored.{LineFits}
 
@@ -29,14 +30,14 @@ areaFits (input s m) = ltb (m .area) 256
 areaFits (bad a m) = ltb (m .area) 256
 areaFits unknown = true
 
-module _ (nid : ℕ) (h : nid < 2 ^ 32) where
-  nameless : {kind sort a b c imm : ℕ} → LineFits (row nid kind sort a b c imm noName)
+module _ (address : MaybeAddress) (nid : ℕ) (h : nid < 2 ^ 32) where
+  nameless : {kind sort a b c imm : ℕ} → LineFits (row address nid kind sort a b c imm noName)
   nameless = record { nid = omega arith; area = omega arith }
 
-  with-name : {kind sort a b c imm : ℕ} (m : Name) → ltb (m .area) 256 ≡ true → LineFits (row nid kind sort a b c imm m)
+  with-name : {kind sort a b c imm : ℕ} (m : Name) → ltb (m .area) 256 ≡ true → LineFits (row address nid kind sort a b c imm m)
   with-name m e = record { nid = omega arith; area = omega (arith, ltb-true (m .area) 256 e) }
 
-  pub line-fits : (o : Op ℕ) → areaFits o ≡ true → LineFits (lineOf nid o)
+  pub line-fits : (o : Op ℕ) → areaFits o ≡ true → LineFits (lineOf address nid o)
   unfolding areaFits
   line-fits (const s n) e = nameless
   line-fits (read m a) e = nameless

@@ -6,5 +6,6 @@ pub mod Fitting
 pub mod Seen
 pub mod Records
 pub mod Got
+pub mod Addressed
 mod Init
 mod Sorted

@@ -18,7 +18,9 @@ use Rattle.btor2.specs.declared.MaybeSort.the-variants.{NoSort}
 use Rattle.btor2.specs.Sort.{sortNumber, firstNumbered, sorts, sortNumbered}
 use Rattle.btor2.proofs.Sort.{number-small}
 use Rattle.btor2_list.specs.declared.Line.{Line}
-use Rattle.btor2_list.specs.Record.{stride, kindIn, sortIn, areaIn, initIn, nidIn, saturated, mostInByte, mostInNid, markOfInit, headOf, hasName, words, word, recordAt, holds, putAt, capacity, wordsFor}
+use Rattle.btor2_list.specs.declared.MaybeAddress.{MaybeAddress}
+use Rattle.btor2_list.specs.declared.MaybeAddress.the-variants.{Address, NoAddress}
+use Rattle.btor2_list.specs.Record.{stride, kindIn, sortIn, areaIn, initIn, addressMarkIn, nidIn, saturated, mostInByte, mostInNid, mark, headOf, addressMark, marked, addressWord, addressBy, hasName, words, word, recordAt, holds, putAt, capacity, wordsFor}
 use Rattle.btor2_list.specs.Node.{node, operatorAt, operatorsByKind, opOf, nodeOf}
 use Rattle.btor2_list.proofs.NoKind.{outside}
 
@@ -32,7 +34,7 @@ pub above : (vs l : List ℕ) (i j : ℕ) → i + length vs ≤ j → getD (sets
 above [] l i j h = refl
 above (a ∷ vs) l i j h = above vs (set l i a) (suc i) j (omega arith) ∙ getD-set-other l i j a 0 (λ e. omega arith)
 
-within : (vs l : List ℕ) (i k : ℕ) → k < length vs → i + length vs ≤ length l → getD (sets l i vs) (i + k) 0 ≡ getD vs k 0
+pub within : (vs l : List ℕ) (i k : ℕ) → k < length vs → i + length vs ≤ length l → getD (sets l i vs) (i + k) 0 ≡ getD vs k 0
 within [] l i k h r = let z : _≡_ {A = ℕ} 0 1 = omega arith in omega arith
 within (a ∷ vs) l i zero h r = rw add-zero (below vs (set l i a) (suc i) i (omega arith) ∙ getD-set-same l i a 0 (omega arith))
 within (a ∷ vs) l i (suc k) h r =
@@ -44,7 +46,7 @@ within (a ∷ vs) l i (suc k) h r =
 -- two records whose words agree are equal
 pub same-words : (ws vs : List ℕ) (p q : ℕ) → ((k : ℕ) → k < stride → word ws p k ≡ word vs q k) → recordAt ws p ≡ recordAt vs q
 unfolding recordAt
-same-words ws vs p q h = rw (h 0 (omega arith), h 1 (omega arith), h 2 (omega arith), h 3 (omega arith))
+same-words ws vs p q h = rw (h 0 (omega arith), h 1 (omega arith), h 2 (omega arith), h 3 (omega arith), h 4 (omega arith))
 
 -- ---- a record is read as the line that it was written from, where its identifier and the area of its name fit their fields. Numbers of
 -- kinds and sorts that do not fit are read as others that name no kind and no sort either, and the fields that share words are not both used.
@@ -60,20 +62,33 @@ kept : (most n : ℕ) → n ≤ most → saturated most n ≡ n
 kept most n h = rw (le-ltb most n h)
 
 -- the fields of a first word
-record Back (k s a i n head : ℕ) : Type 0 where
+record Back (k s a i m n head : ℕ) : Type 0 where
   kind : kindIn head ≡ k
   sort : sortIn head ≡ s
   area : areaIn head ≡ a
   init : initIn head ≡ i
+  address : addressMarkIn head ≡ m
   nid : nidIn head ≡ n
 
-fields-back : (k s a i n : ℕ) → k < 256 → s < 256 → a < 256 → i < 256 → Back k s a i n (k + 256 * s + 65536 * a + 16777216 * i + 4294967296 * n)
-fields-back k s a i n hk hs ha hi = record { kind = omega arith; sort = omega arith; area = omega arith; init = omega arith; nid = omega arith }
+fields-back : (k s a i m n : ℕ) → k < 256 → s < 256 → a < 256 → i < 16 → m < 16 → Back k s a i m n (k + 256 * s + 65536 * a + 16777216 * i + 4294967296 * n + 268435456 * m)
+fields-back k s a i m n hk hs ha hi hm = record { kind = omega arith; sort = omega arith; area = omega arith; init = omega arith; address = omega arith; nid = omega arith }
 
-head-back : (k s a i n : ℕ) → Back (saturated mostInByte k) (saturated mostInByte s) (saturated mostInByte a) (saturated markOfInit i) (saturated mostInNid n) (headOf k s a i n)
-head-back k s a i n =
-    fields-back (saturated mostInByte k) (saturated mostInByte s) (saturated mostInByte a) (saturated markOfInit i) (saturated mostInNid n)
-    (omega (arith, at-most mostInByte k)) (omega (arith, at-most mostInByte s)) (omega (arith, at-most mostInByte a)) (omega (arith, at-most markOfInit i))
+mark-small : (w : MaybeAddress) → addressMark w < 16
+mark-small (Address a) = omega arith
+mark-small NoAddress = omega arith
+
+head-back : (k s a i n : ℕ) (w : MaybeAddress) → Back (saturated mostInByte k) (saturated mostInByte s) (saturated mostInByte a) (saturated mark i) (addressMark w) (saturated mostInNid n) (marked (headOf k s a i n) w)
+head-back k s a i n w =
+    fields-back (saturated mostInByte k) (saturated mostInByte s) (saturated mostInByte a) (saturated mark i) (addressMark w) (saturated mostInNid n)
+    (omega (arith, at-most mostInByte k)) (omega (arith, at-most mostInByte s)) (omega (arith, at-most mostInByte a)) (omega (arith, at-most mark i)) (mark-small w)
+
+-- a first word that is made has no mark yet
+pub no-mark : (k s a i n : ℕ) → addressMarkIn (headOf k s a i n) ≡ 0
+no-mark k s a i n = rw (add-zero (headOf k s a i n)) at (head-back k s a i n NoAddress .address)
+
+address-back : (w : MaybeAddress) → addressBy (addressMark w) (addressWord w) ≡ w
+address-back (Address a) = refl
+address-back NoAddress = refl
 
 no-sort : (ss : List NodeType) (n : ℕ) → 17 < n → firstNumbered ss n ≡ NoSort
 no-sort [] n h = refl
@@ -83,8 +98,8 @@ any-sort : (n : ℕ) → sortNumbered (saturated mostInByte n) ≡ sortNumbered 
 any-sort n = by-le 256 n (λ l. rw (lt-ltb mostInByte n l) (sym (no-sort sorts n (omega arith)))) (λ l. ap sortNumbered (kept mostInByte n (omega arith)))
 
 -- the mark is 0 where there is no init
-any-mark : (i : ℕ) → eqb (saturated markOfInit i) 0 ≡ eqb i 0
-any-mark i = by-le 2 i (λ l. rw (lt-ltb markOfInit i l, ne-eqb i 0 (λ e. omega arith))) (λ l. ap (λ (n : ℕ). eqb n 0) (kept markOfInit i (omega arith)))
+any-mark : (i : ℕ) → eqb (saturated mark i) 0 ≡ eqb i 0
+any-mark i = by-le 2 i (λ l. rw (lt-ltb mark i l, ne-eqb i 0 (λ e. omega arith))) (λ l. ap (λ (n : ℕ). eqb n 0) (kept mark i (omega arith)))
 
 either : (a b : Bool) → (a || b) ≡ true → (a ≡ true) ⊎ (b ≡ true)
 either true b e = inl refl
@@ -100,15 +115,16 @@ module _ (l : Line) (fits : LineFits l) where
     op1 = record { 0 = cond (eqb (l .kind) 1) (l .imm) (l .op1 .0) };
     op2 = record { 0 = cond (hasName (l .kind)) (l .name .at) (l .op2 .0) };
     op3 = record { 0 = cond (hasName (l .kind)) (l .name .len) (l .op3 .0) };
-    imm = cond (eqb kind 19) (saturated markOfInit (cond (eqb (l .kind) 19) (l .imm) 0)) (cond (eqb (l .kind) 1) (l .imm) (l .op1 .0));
+    imm = cond (eqb kind 19) (saturated mark (cond (eqb (l .kind) 19) (l .imm) 0)) (cond (eqb (l .kind) 1) (l .imm) (l .op1 .0));
     name = record { area = l .name .area; at = cond (hasName (l .kind)) (l .name .at) (l .op2 .0); len = cond (hasName (l .kind)) (l .name .len) (l .op3 .0) };
+    address = l .address;
   }
 
   reads : recordAt (words l) 0 ≡ read (saturated mostInByte (l .kind)) (saturated mostInByte (l .sort))
   unfolding recordAt
   reads =
-      let back = head-back (l .kind) (l .sort) (l .name .area) (cond (eqb (l .kind) 19) (l .imm) 0) (l .nid .0) in
-      rw (back .kind, back .sort, back .area, back .init, back .nid, kept mostInByte (l .name .area) (fits .area), kept mostInNid (l .nid .0) (fits .nid))
+      let back = head-back (l .kind) (l .sort) (l .name .area) (cond (eqb (l .kind) 19) (l .imm) 0) (l .nid .0) (l .address) in
+      rw (back .kind, back .sort, back .area, back .init, back .address, back .nid, address-back (l .address), kept mostInByte (l .name .area) (fits .area), kept mostInNid (l .nid .0) (fits .nid))
 
   of-a-const : l .kind ≡ 1 → nodeOf (read (l .kind) (l .sort)) ≡ nodeOf l
   unfolding opOf
@@ -141,7 +157,7 @@ module _ (l : Line) (fits : LineFits l) where
 
   of-a-sort : (k : ℕ) → nodeOf (read k (saturated mostInByte (l .sort))) ≡ nodeOf (read k (l .sort))
   unfolding opOf
-  of-a-sort k = ap (λ (s : MaybeSort). node (l .nid .0) (operatorAt (operatorsByKind s (read k (l .sort))) 1 k)) (any-sort (l .sort))
+  of-a-sort k = ap (λ (s : MaybeSort). node (l .address) (l .nid .0) (operatorAt (operatorsByKind s (read k (l .sort))) 1 k)) (any-sort (l .sort))
 
   of-no-kind : 256 ≤ l .kind → nodeOf (read (saturated mostInByte (l .kind)) (l .sort)) ≡ nodeOf l
   of-no-kind h = rw (lt-ltb mostInByte (l .kind) h, outside l (λ _. omega arith), outside (read mostInByte (l .sort)) (λ _. omega arith))

@@ -13,6 +13,7 @@ use lib.Seq.{getD-append-add, getD-take, length-take-le}
 use Rattle.btor2.specs.Op.{add, sub, mul, udiv, sdiv, urem, sll, srl, ult, Op, const, read, write, bin, uext, ite, eq, and, or, not, state, stateInit, next, input, bad, unknown}
 use Rattle.btor2.proofs.Sort.{sort-back}
 use Rattle.btor2_list.specs.declared.Line.{Line}
+use Rattle.btor2_list.specs.declared.MaybeAddress.{MaybeAddress}
 use Rattle.btor2_list.specs.Record.{recordAt, holds, putAt, capacity, wordsFor}
 use Rattle.btor2_list.specs.Node.{Node, node, lineOf, opOf, nodeOf}
 use Rattle.btor2_list.specs.View.{view}
@@ -20,32 +21,32 @@ use Rattle.btor2_list.proofs.Stored.{LineFits, same-words, put-node, pu
 
 -- ---- a line that is written is read as itself
 
-pub node-back : (nid : ℕ) (o : Op ℕ) → nodeOf (lineOf nid o) ≡ node nid o
+pub node-back : (address : MaybeAddress) (nid : ℕ) (o : Op ℕ) → nodeOf (lineOf address nid o) ≡ node address nid o
 unfolding opOf
-node-back nid (const s n) = rw sort-back
-node-back nid (read m a) = refl
-node-back nid (write m a v) = refl
-node-back nid (bin add a b) = refl
-node-back nid (bin sub a b) = refl
-node-back nid (bin mul a b) = refl
-node-back nid (bin udiv a b) = refl
-node-back nid (bin sdiv a b) = refl
-node-back nid (bin urem a b) = refl
-node-back nid (bin sll a b) = refl
-node-back nid (bin srl a b) = refl
-node-back nid (bin ult a b) = refl
-node-back nid (uext s a) = rw sort-back
-node-back nid (ite s c a b) = rw sort-back
-node-back nid (eq a b) = refl
-node-back nid (and s a b) = rw sort-back
-node-back nid (or s a b) = rw sort-back
-node-back nid (not s a) = rw sort-back
-node-back nid (state s m) = rw sort-back
-node-back nid (stateInit s a m) = rw sort-back
-node-back nid (next s a b) = rw sort-back
-node-back nid (input s m) = rw sort-back
-node-back nid (bad a m) = refl
-node-back nid unknown = refl
+node-back address nid (const s n) = rw sort-back
+node-back address nid (read m a) = refl
+node-back address nid (write m a v) = refl
+node-back address nid (bin add a b) = refl
+node-back address nid (bin sub a b) = refl
+node-back address nid (bin mul a b) = refl
+node-back address nid (bin udiv a b) = refl
+node-back address nid (bin sdiv a b) = refl
+node-back address nid (bin urem a b) = refl
+node-back address nid (bin sll a b) = refl
+node-back address nid (bin srl a b) = refl
+node-back address nid (bin ult a b) = refl
+node-back address nid (uext s a) = rw sort-back
+node-back address nid (ite s c a b) = rw sort-back
+node-back address nid (eq a b) = refl
+node-back address nid (and s a b) = rw sort-back
+node-back address nid (or s a b) = rw sort-back
+node-back address nid (not s a) = rw sort-back
+node-back address nid (state s m) = rw sort-back
+node-back address nid (stateInit s a m) = rw sort-back
+node-back address nid (next s a b) = rw sort-back
+node-back address nid (input s m) = rw sort-back
+node-back address nid (bad a m) = refl
+node-back address nid unknown = refl
 
 -- ---- the view
 

@@ -7,8 +7,13 @@ use lib.ListN.{replicate}
 use Rattle.btor2.specs.declared.MaybeSort.{MaybeSort}
 use Rattle.btor2.specs.Op.{Op, const, uext, ite, and, or, not, state, stateInit, next, input, unknown}
 use Rattle.btor2_list.specs.declared.Line.{Line}
+use Rattle.btor2_list.specs.declared.MaybeAddress.the-variants.{NoAddress}
 use Rattle.btor2_list.specs.Kinds.{constKind}
 use Rattle.btor2_list.specs.Node.{operatorAt, withSort}
+
+-- a record without its address
+abbrev pub unaddressed : Line → Line
+unaddressed l = record { nid = l .nid; kind = l .kind; sort = l .sort; op1 = l .op1; op2 = l .op2; op3 = l .op3; imm = l .imm; name = l .name; address = NoAddress }
 
 -- what a record says of the kinds that have a sort of their own, s; the others, the eleven from read to ult, and eq and bad, are unknown
 abbrev pub sortedByKind : MaybeSort → Line → List (Op ℕ)

@@ -1,4 +1,4 @@
--- What a record says: a line's identifier and its operator, whose operands are places.
+-- What a record says: a line's identifier, its operator, whose operands are places, and the address of its instruction, if it has one.
 use Prim.Native.Nat.{ℕ}
 use mathlib.Core.Bool.{cond}
 use mathlib.Core.List.{List, [], _∷_}
@@ -11,22 +11,30 @@ use Rattle.btor2.specs.Sort.{sortNumber, sortNumbered}
 use Rattle.btor2.specs.Op.{Bin, add, sub, mul, udiv, sdiv, urem, sll, srl, ult, Op, const, read, write, bin, uext, ite, eq, and, or, not, state, stateInit, next, input, bad, unknown, binSort}
 use Rattle.btor2_list.specs.Kinds.{constKind, readKind, writeKind, addKind, subKind, mulKind, udivKind, sdivKind, uremKind, sllKind, srlKind, ultKind, uextKind, iteKind, eqKind, andKind, orKind, notKind, stateKind, nextKind, inputKind, badKind}
 use Rattle.btor2_list.specs.declared.Line.{Line}
+use Rattle.btor2_list.specs.declared.MaybeAddress.{MaybeAddress}
+use Rattle.btor2_list.specs.declared.MaybeAddress.the-variants.{NoAddress}
 
 pub record Node : Type 0 where
   pub nid : ℕ
   pub op : Op ℕ
+  pub address : MaybeAddress
 
-abbrev pub node : ℕ → Op ℕ → Node
-node nid o = record { nid = nid; op = o }
+abbrev pub node : MaybeAddress → ℕ → Op ℕ → Node
+node address nid o = record { nid = nid; op = o; address = address }
+
+-- where there is no line
+abbrev pub noNode : Node
+noNode = node NoAddress 0 unknown
 
 -- ---- the record that is written for a line
 
 abbrev pub noName : Name
 noName = record { area = 0; at = 0; len = 0 }
 
--- the fields in their order: identifier, kind, sort as printed (for uext the one it extends from), operands, constant, name
-abbrev pub row : ℕ → ℕ → ℕ → ℕ → ℕ → ℕ → ℕ → Name → Line
-row nid kind sort op1 op2 op3 imm name = record {
+-- the address of its instruction, if it has one, then the fields in their order: identifier, kind, sort as printed (for uext the one it extends from),
+-- operands, constant, name
+abbrev pub row : MaybeAddress → ℕ → ℕ → ℕ → ℕ → ℕ → ℕ → ℕ → Name → Line
+row address nid kind sort op1 op2 op3 imm name = record {
   nid = record { 0 = nid };
   kind = kind;
   sort = sort;
@@ -35,6 +43,7 @@ row nid kind sort op1 op2 op3 imm name = record {
   op3 = record { 0 = op3 };
   imm = imm;
   name = name;
+  address = address;
 }
 
 abbrev pub binKind : Bin → ℕ
@@ -48,23 +57,23 @@ binKind sll = sllKind
 binKind srl = srlKind
 binKind ult = ultKind
 
-abbrev pub lineOf : ℕ → Op ℕ → Line
-lineOf nid (const s n) = row nid constKind (sortNumber s) 0 0 0 n noName
-lineOf nid (read m a) = row nid readKind 2 m a 0 0 noName
-lineOf nid (write m a v) = row nid writeKind 3 m a v 0 noName
-lineOf nid (bin o a b) = row nid (binKind o) (sortNumber (binSort o)) a b 0 0 noName
-lineOf nid (uext s a) = row nid uextKind (sortNumber s) a 0 0 0 noName
-lineOf nid (ite s c a b) = row nid iteKind (sortNumber s) c a b 0 noName
-lineOf nid (eq a b) = row nid eqKind 1 a b 0 0 noName
-lineOf nid (and s a b) = row nid andKind (sortNumber s) a b 0 0 noName
-lineOf nid (or s a b) = row nid orKind (sortNumber s) a b 0 0 noName
-lineOf nid (not s a) = row nid notKind (sortNumber s) a 0 0 0 noName
-lineOf nid (state s m) = row nid stateKind (sortNumber s) 0 0 0 0 m
-lineOf nid (stateInit s a m) = row nid stateKind (sortNumber s) a 0 0 1 m
-lineOf nid (next s a b) = row nid nextKind (sortNumber s) a b 0 0 noName
-lineOf nid (input s m) = row nid inputKind (sortNumber s) 0 0 0 0 m
-lineOf nid (bad a m) = row nid badKind 0 a 0 0 0 m
-lineOf nid unknown = row nid 0 0 0 0 0 0 noName
+abbrev pub lineOf : MaybeAddress → ℕ → Op ℕ → Line
+lineOf address nid (const s n) = row address nid constKind (sortNumber s) 0 0 0 n noName
+lineOf address nid (read m a) = row address nid readKind 2 m a 0 0 noName
+lineOf address nid (write m a v) = row address nid writeKind 3 m a v 0 noName
+lineOf address nid (bin o a b) = row address nid (binKind o) (sortNumber (binSort o)) a b 0 0 noName
+lineOf address nid (uext s a) = row address nid uextKind (sortNumber s) a 0 0 0 noName
+lineOf address nid (ite s c a b) = row address nid iteKind (sortNumber s) c a b 0 noName
+lineOf address nid (eq a b) = row address nid eqKind 1 a b 0 0 noName
+lineOf address nid (and s a b) = row address nid andKind (sortNumber s) a b 0 0 noName
+lineOf address nid (or s a b) = row address nid orKind (sortNumber s) a b 0 0 noName
+lineOf address nid (not s a) = row address nid notKind (sortNumber s) a 0 0 0 noName
+lineOf address nid (state s m) = row address nid stateKind (sortNumber s) 0 0 0 0 m
+lineOf address nid (stateInit s a m) = row address nid stateKind (sortNumber s) a 0 0 1 m
+lineOf address nid (next s a b) = row address nid nextKind (sortNumber s) a b 0 0 noName
+lineOf address nid (input s m) = row address nid inputKind (sortNumber s) 0 0 0 0 m
+lineOf address nid (bad a m) = row address nid badKind 0 a 0 0 0 m
+lineOf address nid unknown = row address nid 0 0 0 0 0 0 noName
 
 -- ---- what a record is read as
 
@@ -113,4 +122,4 @@ unfoldable pub opOf : Line → Op ℕ
 opOf l = operatorAt (operatorsByKind (sortNumbered (l .sort)) l) constKind (l .kind)
 
 abbrev pub nodeOf : Line → Node
-nodeOf l = node (l .nid .0) (opOf l)
+nodeOf l = node (l .address) (l .nid .0) (opOf l)

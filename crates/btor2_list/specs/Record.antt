@@ -1,18 +1,20 @@
--- The lent words: records of four words, one after the other.
-use Prim.Native.Nat.{ℕ, _+_, _*_, _/_, _%_, _^_, _-_, min}
+-- The lent words: records of five words, one after the other.
+use Prim.Native.Nat.{ℕ, zero, suc, _+_, _*_, _/_, _%_, _^_, _-_, min}
 use mathlib.Core.Bool.{Bool, cond, _||_}
 use mathlib.Core.List.{List, [], _∷_}
 use lib.Dec.{ltb, eqb}
-use lib.ListN.{length, getD, take}
+use lib.ListN.{length, getD, set, take}
 use lib.Seq.{sets}
 use Rattle.btor2_list.specs.Kinds.{constKind, stateKind, inputKind, badKind}
 use Rattle.btor2_list.specs.declared.Line.{Line}
+use Rattle.btor2_list.specs.declared.MaybeAddress.{MaybeAddress}
+use Rattle.btor2_list.specs.declared.MaybeAddress.the-variants.{Address, NoAddress}
 use Rattle.btor2_list.specs.declared.Found.{Found}
 use Rattle.btor2_list.specs.declared.Found.the-variants.{Line as at, Outside}
 
 -- the words of one record
 abbrev pub stride : ℕ
-stride = 4
+stride = 5
 
 -- how many records n words hold
 abbrev pub capacity : ℕ → ℕ
@@ -22,8 +24,8 @@ capacity n = n / stride
 abbrev pub wordsFor : ℕ → ℕ
 wordsFor n = n * stride
 
--- ---- the first word: a byte each for the kind, the sort, the name's area and the mark of a State's init, and four bytes for the identifier.
--- A State has an init where its mark is not 0: we write 1, and a host may write any byte.
+-- ---- the first word: a byte each for the kind, the sort and the name's area, half a byte each for the mark of a State's init and the mark of an
+-- address, and four bytes for the identifier. A State has an init, and a line an address, where the mark is not 0: we write 1.
 
 abbrev pub kindIn : ℕ → ℕ
 kindIn head = head % 256
@@ -35,7 +37,14 @@ abbrev pub areaIn : ℕ → ℕ
 areaIn head = head / 65536 % 256
 
 abbrev pub initIn : ℕ → ℕ
-initIn head = head / 16777216 % 256
+initIn head = head / 16777216 % 16
+
+-- the unit of the mark of an address
+abbrev addressUnit : ℕ
+addressUnit = 2 ^ 28
+
+abbrev pub addressMarkIn : ℕ → ℕ
+addressMarkIn head = head / addressUnit % 16
 
 abbrev pub nidIn : ℕ → ℕ
 nidIn head = head / 4294967296
@@ -51,18 +60,36 @@ mostInByte = 2 ^ 8 - 1
 abbrev pub mostInNid : ℕ
 mostInNid = 2 ^ 32 - 1
 
-abbrev pub markOfInit : ℕ
-markOfInit = 1
+abbrev pub mark : ℕ
+mark = 1
 
+-- without the mark of an address
 abbrev pub headOf : ℕ → ℕ → ℕ → ℕ → ℕ → ℕ
 headOf kind sort area init nid =
     saturated mostInByte kind
     + 256 * saturated mostInByte sort
     + 65536 * saturated mostInByte area
-    + 16777216 * saturated markOfInit init
+    + 16777216 * saturated mark init
     + 4294967296 * saturated mostInNid nid
 
--- ---- the other words: operands. A Const has none, and its value stands in the first's place; State, Input and Bad have no second and third,
+-- ---- the address that a line was lowered for: "the address [..], or a mark that it came with the start or from the joining of edges" (document
+-- 02, R-3). Where there is none, the last word is 0 when we write it, and it is not looked at.
+
+abbrev pub addressMark : MaybeAddress → ℕ
+addressMark (Address a) = mark
+addressMark NoAddress = 0
+
+abbrev pub marked : ℕ → MaybeAddress → ℕ
+marked head address = head + addressUnit * addressMark address
+
+abbrev pub addressWord : MaybeAddress → ℕ
+addressWord (Address a) = a
+addressWord NoAddress = 0
+
+abbrev pub addressBy : ℕ → ℕ → MaybeAddress
+addressBy m a = cond (eqb m 0) NoAddress (Address a)
+
+-- ---- the words between: operands. A Const has none, and its value stands in the first's place; State, Input and Bad have no second and third,
 -- and the place and the length of their name stand there.
 
 abbrev pub hasName : ℕ → Bool
@@ -70,10 +97,11 @@ hasName kind = eqb kind stateKind || (eqb kind inputKind || eqb kind badKind)
 
 abbrev pub words : Line → List ℕ
 words l =
-    headOf (l .kind) (l .sort) (l .name .area) (cond (eqb (l .kind) stateKind) (l .imm) 0) (l .nid .0)
+    marked (headOf (l .kind) (l .sort) (l .name .area) (cond (eqb (l .kind) stateKind) (l .imm) 0) (l .nid .0)) (l .address)
     ∷ cond (eqb (l .kind) constKind) (l .imm) (l .op1 .0)
     ∷ cond (hasName (l .kind)) (l .name .at) (l .op2 .0)
     ∷ cond (hasName (l .kind)) (l .name .len) (l .op3 .0)
+    ∷ addressWord (l .address)
     ∷ []
 
 -- word k of the record at place p, and that record
@@ -90,6 +118,7 @@ recordAt ws p = record {
   op3 = record { 0 = word ws p 3 };
   imm = cond (eqb (kindIn (word ws p 0)) stateKind) (initIn (word ws p 0)) (word ws p 1);
   name = record { area = areaIn (word ws p 0); at = word ws p 2; len = word ws p 3 };
+  address = addressBy (addressMarkIn (word ws p 0)) (word ws p 4);
 }
 
 -- the words reach over the record at place p
@@ -106,6 +135,18 @@ getAt ws p = cond (holds ws p) (at (recordAt ws p)) Outside
 
 abbrev pub fieldAt : (Line → ℕ) → List ℕ → ℕ → ℕ
 fieldAt field ws p = cond (holds ws p) (field (recordAt ws p)) 0
+
+-- a first word with the lowest bit of the mark of an address, so that a mark that is there stays one
+abbrev pub withMark : ℕ → ℕ
+withMark head = cond (eqb (head / addressUnit % 2) 0) (head + addressUnit) head
+
+-- the words once the record that starts at word i has an address, and once the n records from place p on have it, as far as the words hold them
+abbrev pub withAddress : List ℕ → ℕ → ℕ → List ℕ
+withAddress ws i a = set (set ws i (withMark (getD ws i 0))) (i + 4) a
+
+unfoldable pub addressLines : List ℕ → ℕ → ℕ → ℕ → List ℕ
+addressLines ws p zero a = ws
+addressLines ws p (suc n) a = let vs = addressLines ws p n a in cond (holds vs (p + n)) (withAddress vs (wordsFor (p + n)) a) vs
 
 -- the words of the first n records, as far as there are any
 abbrev pub firstLines : List ℕ → ℕ → List ℕ

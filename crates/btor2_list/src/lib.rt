@@ -16,20 +16,21 @@ pub use operator::LineOperator;
 pub use operator::operator_of;
 ghost use mathlib.Core.Path.{_≡_};
 ghost use mathlib.Core.Bool.{cond};
-ghost use Prim.Native.Nat.{_+_, _≤_, _<_, min};
+ghost use Prim.Native.Nat.{_+_, _-_, _≤_, _<_, min};
 ghost use lib.ListN.{length};
 ghost use lib.Seq.{sets};
 ghost use Rattle.btor2.specs.Op.{carried, identifiers};
 ghost use Rattle.btor2_list.specs.declared.Line.{Line};
 ghost use Rattle.btor2_list.specs.Kinds.{uextKind};
-ghost use Rattle.btor2_list.specs.Record.{stride, capacity as capacityOf, saturated, headOf, hasName, words, recordAt, holds, putAt, getAt, fieldAt, firstLines};
+ghost use Rattle.btor2_list.specs.Record.{stride, capacity as capacityOf, saturated, headOf, withMark as withMarkOf, addressBy, withAddress, addressLines, hasName, words, recordAt, holds, putAt, getAt, fieldAt, firstLines};
 ghost use Rattle.btor2_list.specs.Node.{opOf};
-ghost use Rattle.btor2_list.specs.Look.{outside as noLine, lookAt};
+ghost use Rattle.btor2_list.specs.Look.{outside as noLine, lookAt, addressAt};
+ghost use Rattle.btor2_list.specs.Inside.{unaddressed};
 ghost use Rattle.btor2_list.specs.Limits.{linesOut, tallyOut};
 
 // The words of one record, for whoever lends storage, and where each stands in it. A Const's value stands in the first operand's place; a named
 // line has no second and third operand: the place and the length of its name stand there.
-pub const STRIDE: usize = 4;
+pub const STRIDE: usize = 5;
 
 const AT_HEAD: usize = 0;
 
@@ -39,9 +40,13 @@ const AT_OP2: usize = 2;
 
 const AT_OP3: usize = 3;
 
+const AT_ADDRESS: usize = 4;
+
 // The fields of the first word: of h, h % BYTE is the kind, h / SORT_UNIT % BYTE the sort, h / AREA_UNIT % BYTE the name's area,
-// h / INIT_UNIT % BYTE the mark of a State's init, and h / NID_UNIT the identifier.
+// h / INIT_UNIT % HALF_BYTE the mark of a State's init, h / ADDRESS_UNIT % HALF_BYTE that of an address, and h / NID_UNIT the identifier.
 const BYTE: u64 = 256;
+
+const HALF_BYTE: u64 = 16;
 
 const SORT_UNIT: u64 = 256;
 
@@ -49,14 +54,17 @@ const AREA_UNIT: u64 = 65536;
 
 const INIT_UNIT: u64 = 16777216;
 
+const ADDRESS_UNIT: u64 = 268435456;
+
 const NID_UNIT: u64 = 4294967296;
 
-// The largest numbers that fields of the first word hold, and the mark that we write for a State's init; on reading, any but 0 is one.
+// The largest numbers that fields of the first word hold, and the mark that we write for a State's init and for an address; on reading, any but
+// 0 is one.
 const MOST_IN_BYTE: u64 = 255;
 
 const MOST_IN_FOUR_BYTES: u64 = 4294967295;
 
-const MARK_OF_INIT: u64 = 1;
+const MARK: u64 = 1;
 
 // The most lines that a list holds, the largest next identifier at a start, and at a lowering, which is the largest of a line that is printed.
 pub const MOST_LINES: usize = 1_048_576;
@@ -110,6 +118,12 @@ pub const INPUT: u64 = 21;
 
 pub const BAD: u64 = 22;
 
+// The address of the instruction that a line was lowered for. A line that a join appended has none, and one of the start what the host gave it.
+pub enum MaybeAddress {
+    Address(u64),
+    NoAddress,
+}
+
 // The record of a line. Operands stand in printed order; a State's init is op1, and there where imm is not 0. A field that a kind does
 // not use is not looked at; where we write the record it is 0.
 pub struct Line {
@@ -121,6 +135,7 @@ pub struct Line {
     pub op3: NodeRef,
     pub imm: u64,
     pub name: Name,
+    pub address: MaybeAddress,
 }
 
 // What stands at a place of the lent words.
@@ -154,12 +169,18 @@ pub fn put(list: &mut [u64], place: NodeRef, line: Line) -> bool
         return false;
     }
     store(list, p * STRIDE, line);
+    let address = line.address;
+    match address {
+        MaybeAddress::Address(a) => address_line(list, p * STRIDE, a),
+        MaybeAddress::NoAddress => {}
+    }
     true
 }
 
+// The record without its address.
 fn store(list: &mut [u64], at: usize, line: Line)
     requires { ⌜ at + stride ≤ length (now list) ⌝ }
-    ensures { λ _. ⌜ now (list .exit) ≡ sets (now (list .entry)) at (words line) ⌝ }
+    ensures { λ _. ⌜ now (list .exit) ≡ sets (now (list .entry)) at (words (unaddressed line)) ⌝ }
 {
     let kind = line.kind;
     let imm = line.imm;
@@ -173,6 +194,7 @@ fn store(list: &mut [u64], at: usize, line: Line)
     list[at + AT_OP1] = either(kind == CONST, imm, a);
     list[at + AT_OP2] = either(named, name.at, b);
     list[at + AT_OP3] = either(named, name.len, c);
+    list[at + AT_ADDRESS] = 0;
 }
 
 fn either(test: bool, a: u64, b: u64) -> u64
@@ -181,16 +203,48 @@ fn either(test: bool, a: u64, b: u64) -> u64
     if test { a } else { b }
 }
 
-// The first word of a record. A number that its field cannot hold is stored as the largest that it can, which no check over the list accepts;
-// the builder writes none.
+// The first word of a record without an address. A number that its field cannot hold is stored as the largest that it can, which no check over the
+// list accepts; the builder writes none.
 fn head_of(kind: u64, sort: u64, area: u64, init: u64, nid: u64) -> u64
     ensures { λ r. ⌜ r ≡ headOf kind sort area init nid ⌝ }
 {
     saturate(MOST_IN_BYTE, kind)
         + SORT_UNIT * saturate(MOST_IN_BYTE, sort)
         + AREA_UNIT * saturate(MOST_IN_BYTE, area)
-        + INIT_UNIT * saturate(MARK_OF_INIT, init)
+        + INIT_UNIT * saturate(MARK, init)
         + NID_UNIT * saturate(MOST_IN_FOUR_BYTES, nid)
+}
+
+// A first word with the mark of an address: its lowest bit, so that a mark that is there stays one.
+fn with_mark(head: u64) -> u64
+    ensures { λ r. ⌜ r ≡ withMarkOf head ⌝ }
+{
+    if head / ADDRESS_UNIT % 2 == 0 {
+        return head + ADDRESS_UNIT;
+    }
+    head
+}
+
+// Gives the lines from one place up to another, as far as the words hold them, an address, and changes nothing else in their records.
+pub fn address_lines(list: &mut [u64], from: usize, to: usize, address: u64)
+    ensures { λ _. ⌜ now (list .exit) ≡ addressLines (now (list .entry)) from (to - from) address ⌝ }
+{
+    let end = least(to, list.len() / STRIDE);
+    let mut place = from;
+    while place < end {
+        address_line(list, place * STRIDE, address);
+        place += 1;
+    }
+}
+
+// The one writer of an address and its mark, in the record that starts at a word.
+fn address_line(list: &mut [u64], at: usize, address: u64)
+    requires { ⌜ at + stride ≤ length (now list) ⌝ }
+    ensures { λ _. ⌜ now (list .exit) ≡ withAddress (now (list .entry)) at address ⌝ }
+{
+    let head = list[at + AT_HEAD];
+    list[at + AT_HEAD] = with_mark(head);
+    list[at + AT_ADDRESS] = address;
 }
 
 fn saturate(most: u64, n: u64) -> u64
@@ -228,7 +282,8 @@ fn fetch(list: &[u64], p: usize) -> Line
     let b = list[at + AT_OP2];
     let c = list[at + AT_OP3];
     let kind = head % BYTE;
-    let init = head / INIT_UNIT % BYTE;
+    let init = head / INIT_UNIT % HALF_BYTE;
+    let address = address_by(head / ADDRESS_UNIT % HALF_BYTE, list[at + AT_ADDRESS]);
     Line {
         nid: Nid(head / NID_UNIT),
         kind,
@@ -242,7 +297,18 @@ fn fetch(list: &[u64], p: usize) -> Line
             at: b,
             len: c,
         },
+        address,
     }
+}
+
+// An address, or none where its mark is 0.
+pub fn address_by(mark: u64, address: u64) -> MaybeAddress
+    ensures { λ r. ⌜ r ≡ addressBy mark address ⌝ }
+{
+    if mark == 0 {
+        return MaybeAddress::NoAddress;
+    }
+    MaybeAddress::Address(address)
 }
 
 // The kind of the record at a place, 0 where there is none.
@@ -284,6 +350,22 @@ pub fn look(list: &[u64], lines: usize, place: NodeRef) -> Looked
         nid: Nid(head / NID_UNIT),
         sort,
     }
+}
+
+// The address of the line at the place, in a list of `lines` lines.
+pub fn address_at(list: &[u64], lines: usize, place: NodeRef) -> MaybeAddress
+    ensures { λ r. ⌜ r ≡ addressAt (now (list .entry)) lines (place .0) ⌝ }
+{
+    let p = place.0;
+    if lines <= p {
+        return MaybeAddress::NoAddress;
+    }
+    if list.len() / STRIDE <= p {
+        return MaybeAddress::NoAddress;
+    }
+    let at = p * STRIDE;
+    let head = list[at + AT_HEAD];
+    address_by(head / ADDRESS_UNIT % HALF_BYTE, list[at + AT_ADDRESS])
 }
 
 fn outside() -> Looked

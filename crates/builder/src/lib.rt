@@ -10,6 +10,7 @@ use btor2::Name;
 use btor2::Nid;
 use btor2::NodeRef;
 use btor2_list::Line;
+use btor2_list::MaybeAddress;
 use btor2_list::nids_taken;
 pub use lines::new_bad;
 pub use lines::new_const;
@@ -25,6 +26,7 @@ pub use logic::new_not_word;
 pub use memory::new_read;
 pub use memory::new_write;
 ghost use mathlib.Core.Path.{_≡_};
+ghost use Rattle.btor2_list.specs.declared.MaybeAddress.the-variants.{NoAddress};
 ghost use Rattle.btor2_list.specs.Node.{row};
 ghost use Rattle.builder.specs.Prog.{ran};
 ghost use Rattle.builder.specs.Append.{appendLine, at, made};
@@ -41,7 +43,8 @@ pub struct Made {
     pub node: NodeRef,
 }
 
-// The work of the append, with the tally by value: a line of these fields under the next identifier.
+// The work of the append, with the tally by value: a line of these fields under the next identifier. It has no address: whoever appends lines for an
+// instruction gives them its address once they stand (btor2_list's `address_lines`).
 fn append_line(
     list: &mut [u64],
     given: Tally,
@@ -53,7 +56,7 @@ fn append_line(
     imm: u64,
     name: Name,
 ) -> Made
-    ensures { λ r. ⌜ made (now (list .exit)) r ≡ appendLine (at (now (list .entry)) given) (row (given .nid) kind sort (op1 .0) (op2 .0) (op3 .0) imm name) ⌝ }
+    ensures { λ r. ⌜ made (now (list .exit)) r ≡ appendLine (at (now (list .entry)) given) (row NoAddress (given .nid) kind sort (op1 .0) (op2 .0) (op3 .0) imm name) ⌝ }
 {
     let lines = given.lines;
     let nid = given.nid;
@@ -66,6 +69,7 @@ fn append_line(
         op3,
         imm,
         name,
+        address: MaybeAddress::NoAddress,
     };
     let taken = nids_taken(line);
     if btor2_list::put(list, NodeRef(lines), line) {
@@ -95,7 +99,7 @@ fn append(
     imm: u64,
     name: Name,
 ) -> NodeRef
-    ensures { λ r. ⌜ ran (at (now (list .exit)) (now (tally .exit))) (r .0) ≡ appendLine (at (now (list .entry)) (now (tally .entry))) (row (now (tally .entry) .nid) kind sort (op1 .0) (op2 .0) (op3 .0) imm name) ⌝ }
+    ensures { λ r. ⌜ ran (at (now (list .exit)) (now (tally .exit))) (r .0) ≡ appendLine (at (now (list .entry)) (now (tally .entry))) (row NoAddress (now (tally .entry) .nid) kind sort (op1 .0) (op2 .0) (op3 .0) imm name) ⌝ }
 {
     let t = *tally;
     let made = append_line(list, t, kind, sort, op1, op2, op3, imm, name);
@@ -115,7 +119,7 @@ pub(crate) fn add_node(
     imm: u64,
     name: Name,
 ) -> Made
-    ensures { λ r. ⌜ made (now (list .exit)) r ≡ appendLine (at (now (list .entry)) t) (row (t .nid) kind sort (op1 .0) (op2 .0) (op3 .0) imm name) ⌝ }
+    ensures { λ r. ⌜ made (now (list .exit)) r ≡ appendLine (at (now (list .entry)) t) (row NoAddress (t .nid) kind sort (op1 .0) (op2 .0) (op3 .0) imm name) ⌝ }
 {
     let mut tally = t;
     let node = append(list, &mut tally, kind, sort, op1, op2, op3, imm, name);

@@ -15,6 +15,7 @@ use btor2_list::ITE;
 use btor2_list::NEXT;
 use btor2_list::STATE;
 ghost use mathlib.Core.Path.{_≡_};
+ghost use Rattle.btor2_list.specs.declared.MaybeAddress.the-variants.{NoAddress};
 ghost use Rattle.btor2_list.specs.Node.{row, noName};
 ghost use Rattle.builder.specs.OneLine.{newConst, newExt, newIte, newState, newNext, newBad};
 ghost use Rattle.builder.specs.Append.{appendLine, at, made};
@@ -30,7 +31,7 @@ pub(crate) fn plain(
     op2: NodeRef,
     op3: NodeRef,
 ) -> Made
-    ensures { λ r. ⌜ made (now (list .exit)) r ≡ appendLine (at (now (list .entry)) t) (row (t .nid) kind sort (op1 .0) (op2 .0) (op3 .0) 0 noName) ⌝ }
+    ensures { λ r. ⌜ made (now (list .exit)) r ≡ appendLine (at (now (list .entry)) t) (row NoAddress (t .nid) kind sort (op1 .0) (op2 .0) (op3 .0) 0 noName) ⌝ }
 {
     add_node(
         list,

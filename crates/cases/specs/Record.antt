@@ -1,6 +1,7 @@
--- A record in a text of cases: eleven decimal numbers, each after the byte that ended the one before.
+-- A record in a text of cases: thirteen decimal numbers, each after the byte that ended the one before.
 use Prim.Native.Nat.{ℕ}
 use mathlib.Core.List.{List}
+use Rattle.btor2_list.specs.Record.{addressBy}
 use Rattle.cases.specs.Scan.{numberFrom}
 use Rattle.cases.specs.declared.record.Placed.{Placed}
 
@@ -17,6 +18,8 @@ recordFrom text from =
     let area = numberFrom text (imm .next) in
     let at = numberFrom text (area .next) in
     let len = numberFrom text (at .next) in
+    let mark = numberFrom text (len .next) in
+    let address = numberFrom text (mark .next) in
     record {
       place = record { 0 = place .value };
       line = record {
@@ -28,6 +31,7 @@ recordFrom text from =
         op3 = record { 0 = op3 .value };
         imm = imm .value;
         name = record { area = area .value; at = at .value; len = len .value };
+        address = addressBy (mark .value) (address .value);
       };
-      next = len .next;
+      next = address .next;
     }

@@ -4,6 +4,7 @@ use btor2::Name;
 use btor2::Nid;
 use btor2::NodeRef;
 use btor2_list::Line;
+use btor2_list::address_by;
 ghost use mathlib.Core.Path.{_≡_};
 ghost use Rattle.cases.specs.Record.{recordFrom};
 
@@ -14,7 +15,7 @@ pub struct Placed {
     pub next: usize,
 }
 
-// PLACE NID KIND SORT OP1 OP2 OP3 IMM AREA AT LEN, from a place of the text on.
+// PLACE NID KIND SORT OP1 OP2 OP3 IMM AREA AT LEN MARK ADDRESS, from a place of the text on; the mark is 0 where there is no address.
 pub fn read_record(text: &[u8], from: usize) -> Placed
     ensures { λ r. ⌜ r ≡ recordFrom (now (text .entry)) from ⌝ }
 {
@@ -29,6 +30,8 @@ pub fn read_record(text: &[u8], from: usize) -> Placed
     let area = read_decimal(text, imm.next);
     let at = read_decimal(text, area.next);
     let len = read_decimal(text, at.next);
+    let mark = read_decimal(text, len.next);
+    let address = read_decimal(text, mark.next);
     Placed {
         place: NodeRef(place.value as usize),
         line: Line {
@@ -44,7 +47,8 @@ pub fn read_record(text: &[u8], from: usize) -> Placed
                 at: at.value,
                 len: len.value,
             },
+            address: address_by(mark.value, address.value),
         },
-        next: len.next,
+        next: address.next,
     }
 }

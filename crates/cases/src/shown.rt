@@ -2,6 +2,7 @@
 use btor2::NodeRef;
 use btor2_list::Found;
 use btor2_list::Line;
+use btor2_list::MaybeAddress;
 use btor2_list::is_named;
 use builder::Tally;
 use libc::STDOUT_FILENO;
@@ -25,8 +26,9 @@ pub fn show_numbers(numbers: &[u64]) {
     io::write_all(STDOUT_FILENO, b"\n");
 }
 
-// The fields of a record.
+// The fields of a record, the mark of an address and the address last.
 pub fn show_record(line: Line) {
+    let address = line.address;
     let numbers = [
         line.nid.0,
         line.kind,
@@ -38,8 +40,25 @@ pub fn show_record(line: Line) {
         line.name.area,
         line.name.at,
         line.name.len,
+        address_mark(address),
+        address_word(address),
     ];
     show_numbers(&numbers);
+}
+
+// What a record has of an address: its mark, and its last word.
+fn address_mark(address: MaybeAddress) -> u64 {
+    match address {
+        MaybeAddress::Address(_) => 1,
+        MaybeAddress::NoAddress => 0,
+    }
+}
+
+fn address_word(address: MaybeAddress) -> u64 {
+    match address {
+        MaybeAddress::Address(a) => a,
+        MaybeAddress::NoAddress => 0,
+    }
 }
 
 // The lines of the list from one place up to another, each with its name in our area after it, where lines of its kind have names.

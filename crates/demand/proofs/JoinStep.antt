@@ -48,17 +48,17 @@ same true rs a b p q = p
 same false rs a b p q = q
 
 module _ (h : Held) (c : Join) where
-  abbrev number : ℕ
+  abbrev pub number : ℕ
   number = joinRefusal (lentJoin h c) (heldJoin h c) (c .given)
 
   accepted-is : joinAccepted h c ≡ eqb number 0
   unfolding joinAccepted joinAnswerTo
   accepted-is = ap (λ n. eqb n 0) (refusal-is (lentJoin h c) (heldJoin h c) (c .given))
 
-  abbrev taken : Held
+  abbrev pub taken : Held
   taken = record { list = joinAnswerTo h c .lent .list; names = joinAnswerTo h c .lent .names; state = joinAnswerTo h c .held .state }
 
-  by-step : (Q : Held → Type 0) → (number ≡ 0 → Q taken) → Q h → Q (step h (join c))
+  pub by-step : (Q : Held → Type 0) → (number ≡ 0 → Q taken) → Q h → Q (step h (join c))
   unfolding step
   by-step Q hit miss = go (joinAccepted h c) refl
     where
@@ -73,19 +73,20 @@ module _ (h : Held) (c : Join) where
       by-step (λ x. x .state .roles ≡ h .state .roles)
       (λ q. same (eqb number 0) (h .state .roles) (went (lentJoin h c) (heldJoin h c) (c .given)) (joinRefused number (lentJoin h c) (heldJoin h c) (c .given)) refl refl) refl
 
+  -- an accepted join is lent room for the lines in use
+  pub roomy : number ≡ 0 → wordsFor (h .state .tally .lines) ≤ length (c .list)
+  unfolding lentJoin heldJoin
+  roomy q = omega (arith, held (lentJoin h c) (heldJoin h c) (c .given) q, front-length (take (wordsFor (h .state .tally .lines)) (h .list)) (c .list))
+
   module _ (s : Sound h) where
     stored : wordsFor (h .state .tally .lines) ≤ length (h .list)
     unfolding Sound
     stored = s .stored
 
     module _ (q : number ≡ 0) where
-      roomy : wordsFor (h .state .tally .lines) ≤ length (c .list)
-      unfolding lentJoin heldJoin
-      roomy = omega (arith, held (lentJoin h c) (heldJoin h c) (c .given) q, front-length (take (wordsFor (h .state .tally .lines)) (h .list)) (c .list))
-
       lent-lines : operators (lentJoin h c .list) (h .state .tally .lines) ≡ linesIn h
       unfolding lentJoin
-      lent-lines = front-operators (h .list) (c .list) (h .state .tally .lines) stored roomy
+      lent-lines = front-operators (h .list) (c .list) (h .state .tally .lines) stored (roomy q)
 
       accepted : AcceptedJoin (lentJoin h c) (heldJoin h c) (c .given) (joinAnswerTo h c)
       unfolding Sound joinAnswerTo heldJoin

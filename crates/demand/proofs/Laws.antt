@@ -7,8 +7,7 @@ use native.Mathlib.Omega.{arith}
 use borrow.Author.Tests.{eq-eqb, ltb-false}
 use lib.Dec.{T, ltb}
 use Rattle.btor2.specs.declared.NodeRef.{NodeRef}
-use Rattle.builder.specs.Prog.{exec}
-use Rattle.builder.specs.Append.{at, append}
+use Rattle.builder.specs.Append.{runFor}
 use Rattle.riscv.specs.declared.Instruction.{Instruction}
 use Rattle.state.specs.Roles.{role, registerNode, withFlows}
 use Rattle.state.specs.declared.State.{State}
@@ -33,7 +32,7 @@ node-lowering : (l : Lent) (st : State) (i : Instruction) (address : ℕ) (flag 
     → (j : ℕ) → j < 39 → role (lowering l st i address flag .lowered .state .roles) j ≡ role (st .roles) j
 unfolding loweringGiven settled
 node-lowering l st i address flag e j h =
-    let r = exec append (at (l .list) (st .tally)) (programOf st i address flag) in
+    let r = runFor address (l .list) (st .tally) (programOf st i address flag) in
     rw e (outcome-node (withFlows (st .roles) (r .value .flows)) (i .rd) (r .value .outcome) j h ∙ flows-there (st .roles) (r .value .flows) j (omega arith))
 
 pub node-step : (h : Held) (c : Call) (j : ℕ) → j < 39 → role (step h c .state .roles) j ≡ role (h .state .roles) j

@@ -41,7 +41,7 @@ struct Recorded {
 fn main() {
     let mut buffer = [0u8; 65536];
     let n = io::read_full(STDIN_FILENO, &mut buffer);
-    let mut list = [0u64; 400];
+    let mut list = [0u64; 500];
     let mut names = [0u8; 64];
     let mut dispatches = [0u64; 4];
     let mut bads = [0u64; 2];

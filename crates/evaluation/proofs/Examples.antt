@@ -10,6 +10,7 @@ use Rattle.btor2.specs.Op.{Op, const, read, write, bin, add, sub, uext, ite, an
 use Rattle.btor2.specs.SortRule.{rule, isStateOp, judge}
 use Rattle.btor2.specs.Value.{binary}
 use Rattle.btor2.specs.Walk.{walk}
+use Rattle.btor2_list.specs.declared.MaybeAddress.the-variants.{NoAddress}
 use Rattle.btor2_list.specs.Record.{words, recordAt}
 use Rattle.btor2_list.specs.Node.{lineOf, opOf, noName}
 use Rattle.btor2_list.specs.Records.{recordsIn, firstGiven}
@@ -46,7 +47,7 @@ lines =
 
 stored : List (Op ℕ) → List ℕ
 stored [] = []
-stored (o ∷ os) = words (lineOf 0 o) ++ stored os
+stored (o ∷ os) = words (lineOf NoAddress 0 o) ++ stored os
 
 -- a value each of 0, 1 and 3, those of 1 and 3 too wide, and the word of 2 at address 9; then others that do not count
 given-values : List ℕ

@@ -1,6 +1,6 @@
 // Runs the bench on the commands of standard input, a line each:
-//   1 COUNT HEAD A B C                  appends COUNT lines of these four words
-//   2 COUNT HEAD A B C                  the same, with the line's own place added to each word after the first, modulo 2^64
+//   1 COUNT HEAD A B C                  appends COUNT lines of these four words and a fifth that is 0
+//   2 COUNT HEAD A B C                  the same, with the line's own place added to A, B and C, modulo 2^64
 //   3 NODE VALUE                        appends a record of a value
 //   4 NODE ADDRESS WORD                 appends a record of memory
 //   5 WORDS VALUES MEMORY LINES PLACE   lends as many words of the list, of the values and of the memory, or all that there are, and asks for
@@ -10,6 +10,7 @@
 // the count of whole lines in use before it. Words that are no longer in use stay as they are, and command 5 lends them too.
 // Command 5 writes the value and the visits, or `refused` and the number. tools/evaluation_cases.py made the commands and what is to be written.
 use btor2::NodeRef;
+use btor2_list::STRIDE;
 use cases::read_decimal;
 use cases::show;
 use evaluation::Evaluated;
@@ -41,7 +42,7 @@ struct Words {
 fn main() {
     let mut buffer = [0u8; 262144];
     let n = io::read_full(STDIN_FILENO, &mut buffer);
-    let mut list = [0u64; 16400];
+    let mut list = [0u64; 20500];
     let mut values = [0u64; 256];
     let mut memory = [0u64; 384];
     run(&buffer[..n], &mut list, &mut values, &mut memory);
@@ -132,13 +133,14 @@ fn append_line(list: &mut [u64], at: usize, line: Words, placed: bool) -> usize 
         std::num::wrapping_add_u64(line.a, place),
         std::num::wrapping_add_u64(line.b, place),
         std::num::wrapping_add_u64(line.c, place),
+        0,
     ];
     append(list, at, &words)
 }
 
-// What is added: the line's own place, at four words a line, or nothing.
+// What is added: the line's own place, or nothing.
 fn own_place(at: usize, placed: bool) -> u64 {
-    if placed { (at / 4) as u64 } else { 0 }
+    if placed { (at / STRIDE) as u64 } else { 0 }
 }
 
 // Puts the words at a place of the area where all of them fit. The answer is the place after them, or the same place.

@@ -1,10 +1,13 @@
 -- The functions for a host: a call over the state's words is defined in lowering/specs (Words and All); here printing, whose answer is two
--- numbers, the check of a start, whose state is words, and the bench, whose answer is three numbers.
+-- numbers, the check of a start, whose state is words, the bench, whose answer is three numbers, and a line's address, whose answer is two.
 use Prim.Native.Nat.{ℕ}
 use mathlib.Core.Bool.{cond}
 use mathlib.Core.List.{List}
 use lib.Dec.{ltb}
 use lib.ListN.{length}
+use Rattle.btor2_list.specs.declared.MaybeAddress.{MaybeAddress}
+use Rattle.btor2_list.specs.declared.MaybeAddress.the-variants.{Address, NoAddress}
+use Rattle.btor2_list.specs.Look.{addressAt}
 use Rattle.state.specs.declared.room.Room.{Room}
 use Rattle.print.specs.Printing.{PrintAnswer, refused, written, printing}
 use Rattle.start.specs.Start.{startRefusal}
@@ -56,3 +59,21 @@ numbersBy (Value y m) x k = givenNumbers 0 y m
 
 abbrev pub hostEvaluation : List ℕ → ℕ → List ℕ → List ℕ → ℕ → ℕ → ℕ → GivenNumbers
 hostEvaluation ws lines vs ms asked x k = numbersBy (evaluated ws lines vs ms asked) x k
+
+-- ---- a line's address
+
+-- whether there is one, and the address
+pub record GivenAddress : Type 0 where
+  pub there : ℕ
+  pub address : ℕ
+
+abbrev pub givenAddress : ℕ → ℕ → GivenAddress
+givenAddress n a = record { there = n; address = a }
+
+-- where there is none, the address is left as it was
+abbrev pub addressNumbers : MaybeAddress → ℕ → GivenAddress
+addressNumbers (Address a) before = givenAddress 1 a
+addressNumbers NoAddress before = givenAddress 0 before
+
+abbrev pub hostAddress : List ℕ → ℕ → ℕ → ℕ → GivenAddress
+hostAddress ws lines place before = addressNumbers (addressAt ws lines place) before

@@ -1,5 +1,6 @@
 // The library for a host in C or Rust. A slice is a pointer and a length there; the state is 85 words that the host keeps.
 use btor2::NodeRef;
+use btor2_list::MaybeAddress;
 use evaluation::Evaluated;
 use join::Asked;
 use print::Printed;
@@ -14,7 +15,7 @@ ghost use Rattle.lowering.specs.Words.{given, loweringWords};
 ghost use Rattle.lowering.specs.All.{givenAll, loweringAllWords};
 ghost use Rattle.join.specs.Refusal.{joinLent, joinInput};
 ghost use Rattle.join.specs.Words.{givenJoin, joiningWords};
-ghost use Rattle.host.specs.Host.{givenText, hostPrinting, hostCheck, givenNumbers, hostEvaluation};
+ghost use Rattle.host.specs.Host.{givenText, hostPrinting, hostCheck, givenNumbers, hostEvaluation, givenAddress, hostAddress};
 
 // Lowers the instruction `kind`, `rd`, `rs1`, `rs2`, `imm` at an address under a flag. Gives the number of the refusal, or 0. A refused call
 // changes nothing.
@@ -192,5 +193,25 @@ pub extern "C" fn lanthanumbat_evaluate(
             *visits = n;
             0
         }
+    }
+}
+
+// The address of the instruction that the line at a place was lowered for, of a list of this many lines. Gives 1 and the address through `address`, or
+// 0 where there is no such line or it has none; `address` is then as it was.
+#[no_mangle]
+pub extern "C" fn lanthanumbat_address(
+    list: &[u64],
+    lines: usize,
+    place: usize,
+    address: &mut u64,
+) -> u64
+    ensures { λ r. ⌜ givenAddress r (now (address .exit)) ≡ hostAddress (now (list .entry)) lines place (now (address .entry)) ⌝ }
+{
+    match btor2_list::address_at(list, lines, NodeRef(place)) {
+        MaybeAddress::Address(a) => {
+            *address = a;
+            1
+        }
+        MaybeAddress::NoAddress => 0,
     }
 }

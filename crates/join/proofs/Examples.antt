@@ -8,7 +8,8 @@ use lib.ListN.{length, replicate, take, drop}
 use Rattle.btor2.specs.declared.NodeRef.{NodeRef}
 use Rattle.btor2.specs.declared.NodeType.the-variants.{Bit, Word, Memory}
 use Rattle.btor2.specs.Op.{Op, const, and, eq, ite, state, stateInit, next, carried}
-use Rattle.btor2_list.specs.Record.{words, recordAt}
+use Rattle.btor2_list.specs.declared.MaybeAddress.the-variants.{NoAddress}
+use Rattle.btor2_list.specs.Record.{wordsFor, words, recordAt}
 use Rattle.btor2_list.specs.Node.{Node, node, lineOf, opOf, noName}
 use Rattle.btor2_list.specs.View.{view}
 use Rattle.btor2_list.specs.NameBytes.{ourArea}
@@ -37,7 +38,7 @@ start-lines = const Bit 0 ∷ const Bit 1 ∷ const Word 0 ∷ state Memory noNa
 
 stored : ℕ → List (Op ℕ) → List ℕ
 stored nid [] = []
-stored nid (o ∷ os) = words (lineOf nid o) ++ stored (nid + 1) os
+stored nid (o ∷ os) = words (lineOf NoAddress nid o) ++ stored (nid + 1) os
 
 -- every word is the word, every bit the bit 0 but that of 1
 places : List NodeRef
@@ -51,7 +52,7 @@ begun nid sequentials = record {
 
 -- room for so many lines, bytes and sequentials
 room : ℕ → ℕ → ℕ → JoinLent
-room lines bytes sequentials = joinLent (stored 20 start-lines ++ replicate ((lines * 4) + 3) 7) (replicate (bytes + 2) 7) (replicate sequentials 7)
+room lines bytes sequentials = joinLent (stored 20 start-lines ++ replicate (wordsFor lines + 3) 7) (replicate (bytes + 2) 7) (replicate sequentials 7)
 
 -- ---- what is given: the first flag of 4 is the state, a second one and that of 8 are the bit 1
 
@@ -102,15 +103,15 @@ unfolding got of table stored start-lines places begun room asked regular branch
 none = refl
 
 -- the first flag of 4; then the bit 1, by an ite; from a 0 that is not the zero bit's own place an ite too
-regulars : got (of (regular 4 ++ regular 8) [] 0) ≡ record { refusal = 0; nodes = node 27 (ite Bit 1 1 4) ∷ []; flow = 7; nid = 28; names = []; sequentials = 7 ∷ [] }
+regulars : got (of (regular 4 ++ regular 8) [] 0) ≡ record { refusal = 0; nodes = node NoAddress 27 (ite Bit 1 1 4) ∷ []; flow = 7; nid = 28; names = []; sequentials = 7 ∷ [] }
 unfolding got of table stored start-lines places begun room asked regular branch syscall view recordAt opOf carried rolesFit recordsIn firstGiven namesOf nextsOf joinProgram joinAddress joinEdges joinDispatches fromEdge controlFlowFromAny controlFlowFromRegular controlFlowFromBranch controlFlowFromEcall controlFlowFromJalr linesOf _>>=_ appendLine appendListed flagName numeral flagsOut joinLineCount joinRoomOut joinRefusal joinSettled joining
 regulars = refl
 
-zeros : got (of (regular 12 ++ branch 4 1) [] 0) ≡ record { refusal = 0; nodes = node 27 (and Bit 4 1) ∷ []; flow = 7; nid = 28; names = []; sequentials = 7 ∷ [] }
+zeros : got (of (regular 12 ++ branch 4 1) [] 0) ≡ record { refusal = 0; nodes = node NoAddress 27 (and Bit 4 1) ∷ []; flow = 7; nid = 28; names = []; sequentials = 7 ∷ [] }
 unfolding got of table stored start-lines places begun room asked regular branch syscall view recordAt opOf carried rolesFit recordsIn firstGiven namesOf nextsOf joinProgram joinAddress joinEdges joinDispatches fromEdge controlFlowFromAny controlFlowFromRegular controlFlowFromBranch controlFlowFromEcall controlFlowFromJalr linesOf _>>=_ appendLine appendListed flagName numeral flagsOut joinLineCount joinRoomOut joinRefusal joinSettled joining
 zeros = refl
 
-other-zero : got (of (regular 4) [] 5) ≡ record { refusal = 0; nodes = node 27 (ite Bit 4 1 5) ∷ []; flow = 7; nid = 28; names = []; sequentials = 7 ∷ [] }
+other-zero : got (of (regular 4) [] 5) ≡ record { refusal = 0; nodes = node NoAddress 27 (ite Bit 4 1 5) ∷ []; flow = 7; nid = 28; names = []; sequentials = 7 ∷ [] }
 unfolding got of table stored start-lines places begun room asked regular branch syscall view recordAt opOf carried rolesFit recordsIn firstGiven namesOf nextsOf joinProgram joinAddress joinEdges joinDispatches fromEdge controlFlowFromAny controlFlowFromRegular controlFlowFromBranch controlFlowFromEcall controlFlowFromJalr linesOf _>>=_ appendLine appendListed flagName numeral flagsOut joinLineCount joinRoomOut joinRefusal joinSettled joining
 other-zero = refl
 
@@ -119,14 +120,14 @@ syscalls : got (of (syscall 8) (31 ∷ 2 ∷ []) 4)
     ≡ record {
       refusal = 0;
       nodes =
-          node 27 (stateInit Bit 0 (record { area = ourArea; at = 2; len = 21 }))
-          ∷ node 29 (ite Bit 7 4 1)
-          ∷ node 30 (next Bit 7 8)
-          ∷ node 31 (and Bit 7 1)
-          ∷ node 32 (ite Bit 10 1 4)
-          ∷ node 33 (eq 2 2)
-          ∷ node 34 (and Bit 4 12)
-          ∷ node 35 (ite Bit 13 1 11)
+          node NoAddress 27 (stateInit Bit 0 (record { area = ourArea; at = 2; len = 21 }))
+          ∷ node NoAddress 29 (ite Bit 7 4 1)
+          ∷ node NoAddress 30 (next Bit 7 8)
+          ∷ node NoAddress 31 (and Bit 7 1)
+          ∷ node NoAddress 32 (ite Bit 10 1 4)
+          ∷ node NoAddress 33 (eq 2 2)
+          ∷ node NoAddress 34 (and Bit 4 12)
+          ∷ node NoAddress 35 (ite Bit 13 1 11)
           ∷ [];
       flow = 14;
       nid = 36;

@@ -1,18 +1,18 @@
 // Joins edges and dispatches that standard input describes into flows, with the edges in a slice of records, and writes all that each call
 // leaves. A command a line:
-//   1 FLOW                                              joins what the commands before gave; FLOW is a place
-//   2 PLACE NID KIND SORT OP1 OP2 OP3 IMM AREA AT LEN   puts a line
-//   3 LINES NID NAMES EDGES DISPATCHES BADS             sets the tally and the counts of the state
-//   4 ROLE PLACE                                        sets a role
-//   5 COUNT WORDS WORD..                                gives edges: the records that these words hold are lent, and COUNT are in use
-//   6 COUNT WORDS WORD..                                gives dispatches: these words are lent, and COUNT records are in use
-//   7 COUNT WORDS WORD..                                gives the table of flags
-//   8 COUNT WORDS WORD..                                gives the dynamic flags, whose COUNT is not used; one that is not there is no place
-//   9 MODE NOT                                          sets the kernel-mode and the kernel-not node
-//   10 LIST NAMES SEQUENTIALS COUNT                     lends so many words of the list, bytes of our area and words of the sequentials, of
-//                                                       which COUNT are in use
-//   11 WORDS                                            lends so many of the words that a call may use; before it all of them
-// What a command sets stays for those after it. Command 1 writes its refusal, 0 for none; of an accepted call the lines as the ten numbers of
+//   1 FLOW                                                           joins what the commands before gave; FLOW is a place
+//   2 PLACE NID KIND SORT OP1 OP2 OP3 IMM AREA AT LEN MARK ADDRESS   puts a line
+//   3 LINES NID NAMES EDGES DISPATCHES BADS                          sets the tally and the counts of the state
+//   4 ROLE PLACE                                                     sets a role
+//   5 COUNT WORDS WORD..                                             gives edges: the records that these words hold are lent, and COUNT are in use
+//   6 COUNT WORDS WORD..                                             gives dispatches: these words are lent, and COUNT records are in use
+//   7 COUNT WORDS WORD..                                             gives the table of flags
+//   8 COUNT WORDS WORD..                                             gives the dynamic flags, whose COUNT is not used; one that is not there is no place
+//   9 MODE NOT                                                       sets the kernel-mode and the kernel-not node
+//   10 LIST NAMES SEQUENTIALS COUNT                                  lends so many words of the list, bytes of our area and words of the sequentials, of
+//                                                                    which COUNT are in use
+//   11 WORDS                                                         lends so many of the words that a call may use; before it all of them
+// What a command sets stays for those after it. Command 1 writes its refusal, 0 for none; of an accepted call the lines as the twelve numbers of
 // their records, a State's name after it, the sequentials that it added and the new flow; then the tally, the counts and the sequentials in use,
 // and a number each for the whole list, our area, the sequentials, the roles and the words that a call may use, whatever of them is lent or in
 // use.
@@ -100,7 +100,7 @@ fn main() {
     let mut buffer = [0u8; 262144];
     let n = io::read_full(STDIN_FILENO, &mut buffer);
     // Full of a number that no call puts everywhere, so that a word which a call clears shows.
-    let mut list = [46u64; 3200];
+    let mut list = [46u64; 4000];
     let mut names = [46u8; 2048];
     let mut sequentials = [46u64; 64];
     let mut scratch = [46u64; SCRATCH];

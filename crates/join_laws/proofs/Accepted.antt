@@ -17,6 +17,7 @@ use Rattle.btor2.proofs.LineIs.{lineIs}
 use Rattle.btor2.specs.Value.{Env, value}
 use Rattle.btor2.proofs.Range.{value-fits}
 use Rattle.btor2.proofs.SortRule.{line-kept}
+use Rattle.btor2_list.specs.declared.MaybeAddress.the-variants.{NoAddress}
 use Rattle.btor2_list.specs.Record.{capacity, wordsFor}
 use Rattle.btor2_list.specs.View.{view}
 use Rattle.btor2_list.proofs.Stored.{below, above}
@@ -60,12 +61,12 @@ use Rattle.join_laws.proofs.Sorts as S
 
 -- ---- a run by the append, as a run on the lines
 
-pub laid-pushed : {X : Type 0} (p : Prog ℕ X) (m : ℕ) (ws : List ℕ) (t : Tally) (r : Run Store X) → Laid (t .lines) 0 m ws t p r
+pub laid-pushed : {X : Type 0} (p : Prog ℕ X) (m : ℕ) (ws : List ℕ) (t : Tally) (r : Run Store X) → Laid NoAddress (t .lines) 0 m ws t p r
     → ran (operators (r .state .words) (r .state .tally .lines)) (r .value) ≡ pushed (operators ws (t .lines)) p
 unfolding operators
 laid-pushed {X} p m ws t r l =
     ap (λ (v : List _). ran (map (λ line. line .op) v) (r .value)) (l .nodes)
-    ∙ ap (λ v. ran v (r .value)) (map-append (view ws (t .lines)) (numbered (t .nid) L) ∙ ap (λ os. xs ++ os) (numbered-operators (t .nid) L))
+    ∙ ap (λ v. ran v (r .value)) (map-append (view ws (t .lines)) (numbered NoAddress (t .nid) L) ∙ ap (λ os. xs ++ os) (numbered-operators NoAddress (t .nid) L))
     ∙ ap (λ x. ran (xs ++ L) x) (l .value)
     ∙ sym (pushed-lines p xs (t .lines) 0 (operators-length ws (t .lines) ∙ sym (add-zero _)))
   where
@@ -111,11 +112,29 @@ module _ (l : JoinLent) (h : JoinHeld) (g : JoinInput) (e : joinRefusal l h g �
         nids = omega (arith, its .counts .nids, ltb-false mostLines (lines + joinLineCount (h .state) g) (p .0), taking-most (linesOf (placeAfter lines) 0 (joinProgram (h .state) g)));
       }
 
-  pub its-run : Laid lines 0 (joinLineCount (h .state) g) (l .list) (h .state .tally) (joinProgram (h .state) g) (exec append (at (l .list) (h .state .tally)) (joinProgram (h .state) g))
+  pub its-run : Laid NoAddress lines 0 (joinLineCount (h .state) g) (l .list) (h .state .tally) (joinProgram (h .state) g) (exec append (at (l .list) (h .state .tally)) (joinProgram (h .state) g))
   unfolding joinLineCount joinProgram
   its-run =
-      laid (joinProgram (h .state) g) lines 0 (l .list) (h .state .tally) (sym (add-zero _)) room
+      laid NoAddress (joinProgram (h .state) g) lines 0 (l .list) (h .state .tally) (sym (add-zero _)) room
       (fit-lines (joined (bitsIn (h .state)) (kernelIn g) (flagOf g) (λ r. registerNode (h .state .roles) r .0) (dynamicFor (g .dynamics)) (h .state .counts .names) (edgesOf g) (dispatchesOf g) (g .asked .flow .0)) (placeAfter lines) 0)
+
+-- an accepted join's lines, whatever the lines before are
+module _ (l : JoinLent) (h : JoinHeld) (g : JoinInput) (e : joinRefusal l h g ≡ 0) where
+  abbrev its-lines : List (Op ℕ)
+  its-lines = linesOf (placeAfter (lines l h g e)) 0 (joinProgram (h .state) g)
+
+  its-store : ran (exec appendListed (joinStore l h) (joinProgram (h .state) g) .state .store) (exec appendListed (joinStore l h) (joinProgram (h .state) g) .value) ≡ exec append (at (l .list) (h .state .tally)) (joinProgram (h .state) g)
+  its-store = forgets (joinProgram (h .state) g) (joinStore l h)
+
+  pub nodes-after : view (joining l h g .lent .list) (joining l h g .held .state .tally .lines) ≡ view (l .list) (h .state .tally .lines) ++ numbered NoAddress (h .state .tally .nid) its-lines
+  unfolding joining joinSettled
+  nodes-after = rw (eq-eqb (joinRefusal l h g) 0 e)
+      (subst (λ (r : Run Store ℕ). view (r .state .words) (r .state .tally .lines) ≡ view (l .list) (h .state .tally .lines) ++ numbered NoAddress (h .state .tally .nid) its-lines) (sym its-store) ((its-run l h g e) .nodes))
+
+  pub stored-after : wordsFor (joining l h g .held .state .tally .lines) ≤ length (joining l h g .lent .list)
+  unfolding joining joinSettled
+  stored-after = rw (eq-eqb (joinRefusal l h g) 0 e)
+      (subst (λ (r : Run Store ℕ). wordsFor (r .state .tally .lines) ≤ length (r .state .words)) (sym its-store) (rw ((its-run l h g e) .lines, (its-run l h g e) .size) (omega (arith, room l h g e .lines))))
 
 module _ (l : JoinLent) (h : JoinHeld) (g : JoinInput) (sorted : T (meetsSortRule (operators (l .list) (h .state .tally .lines)))) (given : length (h .state .roles) ≡ roleCount) (e : joinRefusal l h g ≡ 0) where
   abbrev n : ℕ
@@ -304,7 +323,7 @@ module _ (l : JoinLent) (h : JoinHeld) (g : JoinInput) (sorted : T (meetsSortRul
   unfolding joining joinSettled
   accepted = rw (eq-eqb (joinRefusal l h g) 0 e) (record {
     refusal = refl;
-    nodes = subst (λ (r : Run Store ℕ). view (r .state .words) (r .state .tally .lines) ≡ view (l .list) n ++ numbered (h .state .tally .nid) (linesOf (placeAfter n) 0 (joinProgram (h .state) g))) (sym forgot) ((its-run l h g e) .nodes);
+    nodes = rw (eq-eqb (joinRefusal l h g) 0 e) at (nodes-after l h g e);
     lines = subst (λ (r : Run Store ℕ). r .state .tally .lines ≡ n + joinLineCount (h .state) g) (sym forgot) ((its-run l h g e) .lines);
     nids = subst (λ (r : Run Store ℕ). r .state .tally .nid ≡ h .state .tally .nid + taking (linesOf (placeAfter n) 0 (joinProgram (h .state) g))) (sym forgot) ((its-run l h g e) .nids);
     roles = refl;
@@ -334,7 +353,7 @@ module _ (l : JoinLent) (h : JoinHeld) (g : JoinInput) (sorted : T (meetsSortRul
       forgot = forgets p (joinStore l h)
 
       stored-in : wordsFor (full .state .store .tally .lines) ≤ length (full .state .store .words)
-      stored-in = subst (λ (r : Run Store ℕ). wordsFor (r .state .tally .lines) ≤ length (r .state .words)) (sym forgot) (rw ((its-run l h g e) .lines, (its-run l h g e) .size) (omega (arith, room l h g e .lines)))
+      stored-in = rw (eq-eqb (joinRefusal l h g) 0 e) at (stored-after l h g e)
 
       extended : operators (full .state .store .words) (full .state .store .tally .lines) ≡ xs ++ ruled .more
       extended = ap (λ (r : Run (List (Op ℕ)) ℕ). r .state) (as-pushed full forgot) ∙ ruled .extends

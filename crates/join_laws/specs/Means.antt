@@ -8,6 +8,7 @@ use lib.ListN.{length}
 use Rattle.btor2.specs.Op.{Op}
 use Rattle.btor2.specs.SortRule.{meetsSortRule}
 use Rattle.btor2.specs.Value.{Env, value}
+use Rattle.btor2_list.specs.declared.MaybeAddress.the-variants.{NoAddress}
 use Rattle.btor2_list.specs.Record.{wordsFor}
 use Rattle.btor2_list.specs.View.{view}
 use Rattle.list_check.specs.Lines.{any}
@@ -40,7 +41,7 @@ module _ (l : JoinLent) (h : JoinHeld) (g : JoinInput) where
     pub refusal : a .refusal ≡ 0
     -- the lines of the join's program after those that stand, under the next identifiers
     pub nodes : view (a .lent .list) (a .held .state .tally .lines)
-        ≡ view (l .list) (h .state .tally .lines) ++ numbered (h .state .tally .nid) (linesOf (placeAfter (h .state .tally .lines)) 0 (joinProgram (h .state) g))
+        ≡ view (l .list) (h .state .tally .lines) ++ numbered NoAddress (h .state .tally .nid) (linesOf (placeAfter (h .state .tally .lines)) 0 (joinProgram (h .state) g))
     pub lines : a .held .state .tally .lines ≡ h .state .tally .lines + joinLineCount (h .state) g
     pub nids : a .held .state .tally .nid ≡ h .state .tally .nid + taking (linesOf (placeAfter (h .state .tally .lines)) 0 (joinProgram (h .state) g))
     pub roles : a .held .state .roles ≡ h .state .roles

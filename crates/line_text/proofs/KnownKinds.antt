@@ -20,7 +20,7 @@ use Rattle.line_text.specs.Record.{lineText, withOperands}
 
 -- a record with another kind
 abbrev pub of-kind : ℕ → Line → Line
-of-kind k l = record { nid = l .nid; kind = k; sort = l .sort; op1 = l .op1; op2 = l .op2; op3 = l .op3; imm = l .imm; name = l .name }
+of-kind k l = record { nid = l .nid; kind = k; sort = l .sort; op1 = l .op1; op2 = l .op2; op3 = l .op3; imm = l .imm; name = l .name; address = l .address }
 
 -- ---- the number of a sort
 

@@ -6,11 +6,10 @@ use native.Mathlib.Decide.{decLe}
 use native.Mathlib.Omega.{arith}
 use lib.ListN.{length, List·getD-eq-default}
 use borrow.Author.Tests.{lt-ltb, le-ltb}
-use Rattle.btor2.specs.Op.{unknown}
 use Rattle.btor2_list.specs.declared.Line.{Line}
 use Rattle.btor2_list.specs.declared.Found.the-variants.{Line as found, Outside as Outside′}
 use Rattle.btor2_list.specs.Record.{recordAt, getAt, fieldAt, capacity, firstLines}
-use Rattle.btor2_list.specs.Node.{Node, node, nodeOf}
+use Rattle.btor2_list.specs.Node.{Node, noNode, nodeOf}
 use Rattle.btor2_list.specs.View.{view}
 use Rattle.btor2_list.proofs.View.{view-length, view-at, cut-view, cut-capacity}
 use Rattle.line_text.specs.Line.{nodes, nodeAt, nidAt}
@@ -25,8 +24,8 @@ module _ (ws : List ℕ) (n p : ℕ) where
   inside : p < n → p < capacity (length ws) → nodeAt (nodes ws n) p ≡ nodeOf (recordAt ws p)
   inside h k = view-at ws _ _ p (omega arith)
 
-  outside : length (nodes ws n) ≤ p → nodeAt (nodes ws n) p ≡ node 0 unknown
-  outside h = List·getD-eq-default (nodes ws n) (node 0 unknown) h
+  outside : length (nodes ws n) ≤ p → nodeAt (nodes ws n) p ≡ noNode
+  outside h = List·getD-eq-default (nodes ws n) noNode h
 
   pub nid-outside : length (nodes ws n) ≤ p → nidAt (nodes ws n) p ≡ 0
   nid-outside h = nid (outside h)

@@ -7,8 +7,8 @@ use native.Mathlib.Numerals.{add-one}
 use native.Mathlib.Omega.{arith}
 use lib.ListN.{length, drop-of-length-le, List·getD-eq-default}
 use lib.Seq.{drop-cons, take-nil}
-use Rattle.btor2.specs.Op.{unknown, mapOp}
-use Rattle.btor2_list.specs.Node.{Node, node}
+use Rattle.btor2.specs.Op.{mapOp}
+use Rattle.btor2_list.specs.Node.{Node, noNode}
 use Rattle.line_text.specs.Record.{lineText}
 use Rattle.line_text.specs.Line.{nodeAt, nodeText, nodesText, runText}
 
@@ -20,7 +20,7 @@ module _ (host ours : List ℕ) (ns : List Node) where
 
   pub line-past : (p : ℕ) → length ns ≤ p → nodeText host ours ns (nodeAt ns p) ≡ []
   unfolding lineText mapOp
-  line-past p h = rw (List·getD-eq-default ns (node 0 unknown) h)
+  line-past p h = rw (List·getD-eq-default ns noNode h)
 
   pub run-none : (p n : ℕ) → n ≡ 0 → runText host ours ns p n ≡ []
   unfolding nodesText
@@ -28,7 +28,7 @@ module _ (host ours : List ℕ) (ns : List Node) where
 
   run-in : (p n : ℕ) → p < length ns → runText host ours ns p (suc n) ≡ nodeText host ours ns (nodeAt ns p) ++ runText host ours ns (suc p) n
   unfolding nodesText
-  run-in p n h = rw (drop-cons ns p (node 0 unknown) h)
+  run-in p n h = rw (drop-cons ns p noNode h)
 
   run-suc : (p n : ℕ) → runText host ours ns p (suc n) ≡ nodeText host ours ns (nodeAt ns p) ++ runText host ours ns (suc p) n
   run-suc p n = go (decLe (length ns) p)

@@ -2,9 +2,9 @@
 use Prim.Native.Nat.{ℕ, min}
 use mathlib.Core.List.{List, [], _∷_, _++_}
 use lib.ListN.{length, getD, take, drop}
-use Rattle.btor2.specs.Op.{unknown, mapOp}
+use Rattle.btor2.specs.Op.{mapOp}
 use Rattle.btor2_list.specs.Record.{capacity}
-use Rattle.btor2_list.specs.Node.{Node, node}
+use Rattle.btor2_list.specs.Node.{Node, noNode}
 use Rattle.btor2_list.specs.View.{view}
 use Rattle.line_text.specs.Record.{lineText, printedName}
 
@@ -13,7 +13,7 @@ abbrev pub nodes : List ℕ → ℕ → List Node
 nodes ws n = view ws (min n (capacity (length ws)))
 
 abbrev pub nodeAt : List Node → ℕ → Node
-nodeAt ns p = getD ns p (node 0 unknown)
+nodeAt ns p = getD ns p noNode
 
 -- `get_nid`: the identifier of the line at a place, 0 where there is none
 abbrev pub nidAt : List Node → ℕ → ℕ

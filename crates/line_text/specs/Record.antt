@@ -67,4 +67,5 @@ withOperands l a b c = record {
   op3 = record { 0 = c };
   imm = l .imm;
   name = l .name;
+  address = l .address;
 }

@@ -11,9 +11,9 @@ use Rattle.bitvec.proofs.Truth.{neither}
 use Rattle.bitvec.proofs.Base.{by-le}
 use Rattle.btor2.specs.declared.MaybeSort.{MaybeSort}
 use Rattle.btor2.specs.declared.MaybeSort.the-variants.{Sort, NoSort}
-use Rattle.btor2.specs.Op.{Op, unknown, carried}
+use Rattle.btor2.specs.Op.{Op, carried}
 use Rattle.btor2_list.specs.Record.{recordAt, capacity}
-use Rattle.btor2_list.specs.Node.{Node, node, opOf}
+use Rattle.btor2_list.specs.Node.{Node, noNode, opOf}
 use Rattle.btor2_list.specs.View.{view}
 use Rattle.btor2_list.proofs.View.{view-length, view-at}
 use Rattle.list_check.specs.Lines.{ops, opAt, some, any, pastWords}
@@ -30,7 +30,7 @@ abbrev pub recordUnformed : ℕ → ℕ → List ℕ → ℕ → Bool
 recordUnformed host ours ws p = opUnformed host ours (noValueAt ws p) (said ws p)
 
 pub op-at : (ws : List ℕ) (n p : ℕ) → p < n → opAt (ops (view ws n)) p ≡ said ws p
-op-at ws n p h = List·getD-map (λ (x : Node). x .op) (view ws n) p (node 0 unknown) ∙ ap (λ (x : Node). x .op) (view-at ws n (node 0 unknown) p h)
+op-at ws n p h = List·getD-map (λ (x : Node). x .op) (view ws n) p noNode ∙ ap (λ (x : Node). x .op) (view-at ws n noNode p h)
 
 pub ops-length : (ws : List ℕ) (n : ℕ) → length (ops (view ws n)) ≡ n
 ops-length ws n = length-map (view ws n) (λ (x : Node). x .op) ∙ view-length ws n

@@ -11,6 +11,7 @@ use Rattle.bitvec.proofs.Truth.{is-true}
 use Rattle.btor2.specs.declared.Name.{Name}
 use Rattle.btor2.specs.declared.NodeRef.{NodeRef}
 use Rattle.btor2.specs.Op.{Op, const, read, write, bin, uext, ite, eq, and, or, not, state, stateInit, next, input, bad, unknown}
+use Rattle.btor2_list.specs.declared.MaybeAddress.the-variants.{Address}
 use Rattle.btor2_list.specs.Record.{capacity}
 use Rattle.btor2_list.specs.Node.{noName}
 use Rattle.btor2_list.specs.View.{view}
@@ -152,7 +153,7 @@ pub record Grown (l : Lent) (st : State) (i : Instruction) (address : ℕ) (a : 
   pub bads : length (a .lent .bads) ≡ length (l .bads)
   pub ops : List (Op ℕ)
   pub rows : oneRowEach ops ≡ true
-  pub nodes : view (a .lent .list) (a .lowered .state .tally .lines) ≡ view (l .list) (st .tally .lines) ++ numbered (st .tally .nid) ops
+  pub nodes : view (a .lent .list) (a .lowered .state .tally .lines) ≡ view (l .list) (st .tally .lines) ++ numbered (Address address) (st .tally .nid) ops
 
 pub data OneCall (l : Lent) (st : State) (i : Instruction) (address : ℕ) : Answer → Type 0 where
   stays : (n : ℕ) → (n ≡ 0 → ⊥) → OneCall l st i address (refused n l st)

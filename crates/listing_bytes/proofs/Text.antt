@@ -12,6 +12,8 @@ use lib.Seq.{drop-at, take-append-seam}
 use Rattle.btor2.specs.declared.Name.{Name}
 use Rattle.btor2.specs.Sort.{sortNumber, width}
 use Rattle.btor2.specs.Op.{Bin, add, sub, mul, udiv, sdiv, urem, sll, srl, ult, Op, const, read, write, bin, uext, ite, eq, and, or, not, state, stateInit, next, input, bad, unknown, mapOp, binSort, identifiers}
+use Rattle.btor2_list.specs.declared.MaybeAddress.{MaybeAddress}
+use Rattle.btor2_list.specs.declared.MaybeAddress.the-variants.{Address}
 use Rattle.btor2_list.specs.Record.{capacity}
 use Rattle.btor2_list.specs.Node.{Node}
 use Rattle.btor2_list.specs.View.{view}
@@ -106,14 +108,14 @@ both true b e = (refl, e)
 both false b e = never e
 
 -- the first k of them
-rows-most : (host ours : List ℕ) (ns : List Node) (k nid : ℕ) (ops : List (Op ℕ)) → oneRowEach ops ≡ true → length (nodesText host ours ns (take k (numbered nid ops))) ≤ mostRow * k
+rows-most : (host ours : List ℕ) (ns : List Node) (w : MaybeAddress) (k nid : ℕ) (ops : List (Op ℕ)) → oneRowEach ops ≡ true → length (nodesText host ours ns (take k (numbered w nid ops))) ≤ mostRow * k
 unfolding nodesText numbered
-rows-most host ours ns zero nid ops e = omega arith
-rows-most host ours ns (suc k) nid [] e = omega arith
-rows-most host ours ns (suc k) nid (o ∷ ops) e =
+rows-most host ours ns w zero nid ops e = omega arith
+rows-most host ours ns w (suc k) nid [] e = omega arith
+rows-most host ours ns w (suc k) nid (o ∷ ops) e =
     let b = both (oneRow o) (oneRowEach ops) e in
     simp length-append
-    (omega (arith, line-most (printedName host ours) (nidAt ns) nid (name-most host ours) o (b .0), rows-most host ours ns k (nid + identifiers o) ops (b .1)))
+    (omega (arith, line-most (printedName host ours) (nidAt ns) nid (name-most host ours) o (b .0), rows-most host ours ns w k (nid + identifiers o) ops (b .1)))
 
 -- ---- remarks
 
@@ -167,10 +169,10 @@ module _ (l : Lent) (st : State) (i : Instruction) (address : ℕ) (none : (st .
       let grown = a .lowered .state .tally .lines - st .tally .lines in
       let all : min (a .lowered .state .tally .lines) (capacity (length (a .lent .list))) ≡ a .lowered .state .tally .lines =
       min-eq-left (rw (g .list, g .lines) (g .held)) in
-      let own : drop (st .tally .lines) ns ≡ numbered (st .tally .nid) (g .ops) =
+      let own : drop (st .tally .lines) ns ≡ numbered (Address address) (st .tally .nid) (g .ops) =
       ap (λ (n : ℕ). drop (st .tally .lines) (view (a .lent .list) n)) all ∙ ap (drop (st .tally .lines)) (g .nodes) ∙ drop-at (view (l .list) (st .tally .lines)) _ (st .tally .lines) (view-length (l .list) (st .tally .lines)) in
       let e = ap (λ (x : List Node). length (nodesText hostArea (a .lent .names) ns (take grown x))) own in
-      omega (arith, e, rows-most hostArea (a .lent .names) ns grown (st .tally .nid) (g .ops) (g .rows), g .lines, g .most)
+      omega (arith, e, rows-most hostArea (a .lent .names) ns (Address address) grown (st .tally .nid) (g .ops) (g .rows), g .lines, g .most)
 
   appended-most : {a : Answer} → Grown l st i address a → length (appendedText (st .tally .lines) (a .lent) (a .lowered .state)) ≤ outRoom
   unfolding appendedText countsAfter

@@ -11,6 +11,7 @@ use Rattle.btor2.specs.Op.{mapOp, carried}
 use Rattle.btor2.specs.Walk.{walk}
 use Rattle.btor2.specs.SortRule.{rule, isStateOp, judge, judged, allRight, meetsSortRule}
 use Rattle.btor2.specs.Value.{Env, evalOp, values, value}
+use Rattle.btor2_list.specs.declared.MaybeAddress.the-variants.{NoAddress}
 use Rattle.btor2_list.specs.Record.{capacity, wordsFor, recordAt}
 use Rattle.btor2_list.specs.Node.{Node, opOf}
 use Rattle.btor2_list.specs.View.{view}
@@ -37,19 +38,19 @@ whole : length startWords ≡ wordsFor startLines
 unfolding startNames concat startName namedStates startOps records startWords
 whole = refl
 
-lines : view startWords startLines ≡ numbered firstNid startOps
+lines : view startWords startLines ≡ numbered NoAddress firstNid startOps
 unfolding startNames concat startName namedStates startOps records startWords view recordAt opOf numbered
 lines = refl
 
-rising-nids : nidsOut (firstNid + startLines) (taken (numbered firstNid startOps)) ≡ false
+rising-nids : nidsOut (firstNid + startLines) (taken (numbered NoAddress firstNid startOps)) ≡ false
 unfolding startNames concat startName namedStates startOps numbered taken nidsOut rising
 rising-nids = refl
 
-formed : (ours : ℕ) → unformed (length hostArea) ours (ops (numbered firstNid startOps)) ≡ false
+formed : (ours : ℕ) → unformed (length hostArea) ours (ops (numbered NoAddress firstNid startOps)) ≡ false
 unfolding startNames concat hostArea startName namedStates startOps numbered unformed some opUnformed carried
 formed ours = refl
 
-sorted : not (meetsSortRule (ops (numbered firstNid startOps))) ≡ false
+sorted : not (meetsSortRule (ops (numbered NoAddress firstNid startOps))) ≡ false
 unfolding startNames concat startName namedStates startOps numbered meetsSortRule judged walk judge rule isStateOp carried mapOp allRight
 sorted = refl
 
@@ -67,7 +68,7 @@ module _ (words : List ℕ) (h : wordsFor startLines ≤ length words) where
   put-length : length (startIn words) ≡ length words
   put-length = rw (put, length-append startWords (drop (wordsFor startLines) words), whole, length-drop (wordsFor startLines) words) (omega arith)
 
-  pub lines-put : view (startIn words) startLines ≡ numbered firstNid startOps
+  pub lines-put : view (startIn words) startLines ≡ numbered NoAddress firstNid startOps
   lines-put = rw put (view-front startWords (drop (wordsFor startLines) words) startLines (rw whole (lit≤ tt)) ∙ lines)
 
   pub roles-put : not (rolesFit (startIn words) startLines 0 startRoles) ≡ false
@@ -99,7 +100,7 @@ start-accepted words room h g =
 
 -- ---- demand 3
 
-zero-line : (env : Env) → value env (ops (numbered firstNid startOps)) 2 .num ≡ 0
+zero-line : (env : Env) → value env (ops (numbered NoAddress firstNid startOps)) 2 .num ≡ 0
 unfolding startNames concat startName namedStates startOps numbered walk mapOp evalOp values value
 zero-line env = refl
 

@@ -8,9 +8,10 @@ use borrow.Author.Tests.{le-ltb, eqb-true, eqb-false, not-false}
 use lib.Dec.{eqb}
 use lib.ListN.{length, getD, replicate, List·getD-append}
 use Rattle.btor2.specs.declared.NodeRef.{NodeRef}
-use Rattle.btor2.specs.Op.{unknown, carried}
-use Rattle.btor2_list.specs.Record.{wordsFor}
-use Rattle.btor2_list.specs.Node.{Node, node}
+use Rattle.btor2.specs.Op.{carried}
+use Rattle.btor2_list.specs.declared.MaybeAddress.the-variants.{NoAddress}
+use Rattle.btor2_list.specs.Record.{capacity, wordsFor}
+use Rattle.btor2_list.specs.Node.{Node, noNode}
 use Rattle.btor2_list.specs.View.{view}
 use Rattle.btor2_list.specs.Look.{seen, lookAt}
 use Rattle.btor2_list.proofs.Seen.{look-line}
@@ -52,14 +53,14 @@ pub record Sound (l : Lent) (st : State) : Type 0 where
   pub bit : valueSort (lookAt (l .list) (st .tally .lines) (flag .0)) ≡ 1
 
 nowhere : Node
-nowhere = node 0 unknown
+nowhere = noNode
 
 held : (l : Lent) (st : State) → Kept l st → wordsFor (st .tally .lines) ≤ length (l .list)
 held l st k = omega (arith, k .list, k .lines)
 
 -- ---- the start
 
-flag-line : valueSort (seen (getD (numbered firstNid startOps) (flag .0) nowhere)) ≡ 1
+flag-line : valueSort (seen (getD (numbered NoAddress firstNid startOps) (flag .0) nowhere)) ≡ 1
 unfolding startNames concat startName namedStates startOps numbered carried
 flag-line = refl
 
@@ -135,7 +136,7 @@ counts-in : (l : Lent) (st : State) → Sound l st → let e = emptied st in cou
 unfolding roomOf emptied
 counts-in l st s =
     let k = s .kept in
-    rw (le-ltb mostLines (st .tally .lines) (omega (arith, k .lines)), le-ltb mostNid (st .tally .nid) (omega (arith, k .lines, s .nids)), le-ltb (length (l .list) / 4) (st .tally .lines) (omega (arith, k .lines, k .list)), le-ltb (length (l .names)) (st .counts .names) (omega (arith, k .names, k .lines, k .badLines, k .nameBytes)), le-ltb (length (l .edges) / 4) 0 (omega arith), le-ltb (length (l .dispatches) / 2) 0 (omega arith), le-ltb (length (l .bads)) (st .counts .bads) (omega (arith, k .bads, k .lines, k .badLines)))
+    rw (le-ltb mostLines (st .tally .lines) (omega (arith, k .lines)), le-ltb mostNid (st .tally .nid) (omega (arith, k .lines, s .nids)), le-ltb (capacity (length (l .list))) (st .tally .lines) (omega (arith, k .lines, k .list)), le-ltb (length (l .names)) (st .counts .names) (omega (arith, k .names, k .lines, k .badLines, k .nameBytes)), le-ltb (length (l .edges) / 4) 0 (omega arith), le-ltb (length (l .dispatches) / 2) 0 (omega arith), le-ltb (length (l .bads)) (st .counts .bads) (omega (arith, k .bads, k .lines, k .badLines)))
 
 flag-in : (l : Lent) (st : State) → Sound l st → (i : Instruction) → flagOut (l .list) (st .tally .lines) i (flag .0) ≡ false
 unfolding flagOut

@@ -9,10 +9,9 @@ use lib.ListN.{length, getD, length-append, List·getD-append}
 use Rattle.bitvec.proofs.Base.{by-le}
 use Rattle.btor2.specs.declared.NodeRef.{NodeRef}
 use Rattle.btor2.specs.Sort.{sortNumber}
-use Rattle.btor2.specs.Op.{unknown}
 use Rattle.btor2_list.specs.declared.Looked.{Looked}
 use Rattle.btor2_list.specs.Record.{wordsFor}
-use Rattle.btor2_list.specs.Node.{Node, node}
+use Rattle.btor2_list.specs.Node.{Node, noNode}
 use Rattle.btor2_list.specs.View.{view}
 use Rattle.btor2_list.specs.Look.{seen, lookAt}
 use Rattle.btor2_list.proofs.Seen.{look-line, look-past}
@@ -30,9 +29,9 @@ module _ (front rest : List ℕ) where
         by-le n p
         (λ g. look-past (front ++ rest) n longer p g ∙ sym (look-past front n h p g))
         (λ g.
-        look-line (front ++ rest) n longer p (node 0 unknown) g
-        ∙ ap (λ (v : List Node). seen (getD v p (node 0 unknown))) (view-front n h)
-        ∙ sym (look-line front n h p (node 0 unknown) g))
+        look-line (front ++ rest) n longer p noNode g
+        ∙ ap (λ (v : List Node). seen (getD v p noNode)) (view-front n h)
+        ∙ sym (look-line front n h p noNode g))
 
     pub roles-front : (i : ℕ) (roles : List NodeRef) → rolesFit (front ++ rest) n i roles ≡ rolesFit front n i roles
     unfolding rolesFit

@@ -5,6 +5,7 @@ use mathlib.Core.Path.{_≡_}
 use mathlib.Core.List.{List}
 use lib.ListN.{length}
 use Rattle.btor2.specs.Value.{Env}
+use Rattle.btor2_list.specs.declared.MaybeAddress.the-variants.{NoAddress}
 use Rattle.btor2_list.specs.Record.{wordsFor}
 use Rattle.btor2_list.specs.View.{view}
 use Rattle.state.specs.declared.room.Room.{Room}
@@ -16,7 +17,7 @@ use Rattle.demand.specs.Demand3.{Records, NoneExcluded, ZeroRegister, Means}
 
 -- its lines are the definition's, under the identifiers 20 to 58
 abbrev pub StartLines : Type 0
-StartLines = (words : List ℕ) → wordsFor startLines ≤ length words → view (startIn words) startLines ≡ numbered firstNid startOps
+StartLines = (words : List ℕ) → wordsFor startLines ≤ length words → view (startIn words) startLines ≡ numbered NoAddress firstNid startOps
 
 -- none of 9 to 13 applies, whatever the room, where it holds as many lines
 abbrev pub StartAccepted : Type 0

@@ -9,6 +9,7 @@ use Rattle.btor2.specs.declared.NodeRef.{NodeRef}
 use Rattle.btor2.specs.declared.NodeType.{NodeType}
 use Rattle.btor2.specs.declared.NodeType.the-variants.{Bit, Word, Memory}
 use Rattle.btor2.specs.Op.{Op, const, state, unknown}
+use Rattle.btor2_list.specs.declared.MaybeAddress.the-variants.{NoAddress}
 use Rattle.btor2_list.specs.Record.{capacity, wordsFor, words}
 use Rattle.btor2_list.specs.declared.Line.{Line}
 use Rattle.btor2_list.specs.Node.{lineOf}
@@ -59,14 +60,14 @@ startOps =
 -- the records of lines under identifiers that go up by one
 unfoldable pub records : ℕ → List (Op ℕ) → List ℕ
 records nid [] = []
-records nid (o ∷ os) = words (lineOf nid o) ++ records (nid + 1) os
+records nid (o ∷ os) = words (lineOf NoAddress nid o) ++ records (nid + 1) os
 
 unfoldable pub startWords : List ℕ
 startWords = records firstNid startOps
 
 -- the record of line k
 abbrev pub startLine : ℕ → Line
-startLine k = lineOf (firstNid + k) (getD startOps k unknown)
+startLine k = lineOf NoAddress (firstNid + k) (getD startOps k unknown)
 
 -- the lent words with the start in front, where they hold it
 unfoldable pub startIn : List ℕ → List ℕ

@@ -3,6 +3,7 @@ use btor2::Name;
 use btor2::Nid;
 use btor2::NodeRef;
 use btor2_list::Line;
+use btor2_list::MaybeAddress;
 use btor2_list::capacity;
 use btor2_list::put;
 use builder::Tally;
@@ -61,6 +62,7 @@ fn start_line(k: usize) -> Line
         op3: none,
         imm,
         name: Name { area, at, len },
+        address: MaybeAddress::NoAddress,
     }
 }
 

@@ -4,8 +4,7 @@ use mathlib.Core.Path.{_≡_, refl}
 use mathlib.Core.Bool.{Bool, true, false, cond}
 use lib.Dec.{eqb}
 use Rattle.btor2.specs.declared.NodeRef.{NodeRef}
-use Rattle.builder.specs.Prog.{exec}
-use Rattle.builder.specs.Append.{at, append}
+use Rattle.builder.specs.Append.{runFor}
 use Rattle.riscv.specs.declared.Instruction.{Instruction}
 use Rattle.state.specs.declared.State.{State}
 use Rattle.lowering_refusals.specs.Refusal.{refusalGiven}
@@ -20,5 +19,5 @@ pub refused-kept : (fits : Bool) (l : Lent) (st : State) (i : Instruction) (addr
     → loweringGiven fits l st i address flag .lowered .state ≡ st
 unfolding loweringGiven settled
 refused-kept fits l st i address flag =
-    kept-by (eqb (refusalGiven fits (l .list) (roomIn l) (st .tally) (st .counts) i address (flag .0)) 0) (settled l st i address (exec append (at (l .list) (st .tally)) (programOf st i address flag)))
+    kept-by (eqb (refusalGiven fits (l .list) (roomIn l) (st .tally) (st .counts) i address (flag .0)) 0) (settled l st i address (runFor address (l .list) (st .tally) (programOf st i address flag)))
     (refusalGiven fits (l .list) (roomIn l) (st .tally) (st .counts) i address (flag .0)) l st refl

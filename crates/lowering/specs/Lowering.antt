@@ -7,8 +7,8 @@ use lib.Dec.{eqb}
 use lib.ListN.{length}
 use lib.Seq.{sets}
 use Rattle.btor2.specs.declared.NodeRef.{NodeRef}
-use Rattle.builder.specs.Prog.{Prog, Run, exec}
-use Rattle.builder.specs.Append.{Store, at, append}
+use Rattle.builder.specs.Prog.{Prog, Run}
+use Rattle.builder.specs.Append.{Store, runFor}
 use Rattle.riscv.specs.declared.Class.{Class}
 use Rattle.riscv.specs.Class.{class, hasBad, hasDispatch}
 use Rattle.btor2_list.specs.Records.{putRecord}
@@ -100,7 +100,7 @@ refused n l st = record { lowered = record { refusal = n; state = st }; lent = l
 unfoldable pub loweringGiven : Bool → Lent → State → Instruction → ℕ → NodeRef → Answer
 loweringGiven fits l st i address flag =
     let n = refusalGiven fits (l .list) (roomIn l) (st .tally) (st .counts) i address (flag .0) in
-    cond (eqb n 0) (settled l st i address (exec append (at (l .list) (st .tally)) (programOf st i address flag))) (refused n l st)
+    cond (eqb n 0) (settled l st i address (runFor address (l .list) (st .tally) (programOf st i address flag))) (refused n l st)
 
 -- one call: the roles are tested on the list that it is lent
 abbrev pub lowering : Lent → State → Instruction → ℕ → NodeRef → Answer

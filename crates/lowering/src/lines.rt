@@ -9,11 +9,12 @@ use riscv_rows::has_bad;
 use state::Reads;
 ghost use mathlib.Core.Path.{_≡_};
 ghost use Rattle.btor2_list.specs.Node.{noName};
-ghost use Rattle.builder.specs.Gives.{Gives};
+ghost use Rattle.builder.specs.Prog.{ran};
+ghost use Rattle.builder.specs.Append.{at, runFor};
 ghost use Rattle.models.specs.Code.{modeledOf};
 ghost use Rattle.lowering.specs.Lines.{nameFor, programWith};
 
-// The lines of an instruction, with the name of its bad line and with which of its fields are zero.
+// The lines of an instruction, each with its address; with the name of its bad line and with which of its fields are zero.
 pub fn lower_lines(
     list: &mut [u64],
     t: Tally,
@@ -23,14 +24,14 @@ pub fn lower_lines(
     i: Instruction,
     address: u64,
 ) -> Modeled
-    ensures { λ r. ⌜ Gives (now (list .entry)) t (programWith name z e i address) (now (list .exit)) (r .tally) (modeledOf r) ⌝ }
+    ensures { λ r. ⌜ ran (at (now (list .exit)) (r .tally)) (modeledOf r) ≡ runFor address (now (list .entry)) t (programWith name z e i address) ⌝ }
 {
     let operands = e.operands;
     let flows = e.flows;
     let register = e.register;
     let memory = e.memory;
     let imm = riscv_rows::constant_of(i.kind, i.imm, address);
-    translate::translate_lines(
+    let m = translate::translate_lines(
         list,
         t,
         operands,
@@ -41,7 +42,10 @@ pub fn lower_lines(
         name,
         i.kind,
         z,
-    )
+    );
+    let after = m.tally;
+    btor2_list::address_lines(list, t.lines, after.lines, address);
+    m
 }
 
 // The name of Jalr's bad line, which is put after `at` bytes of our area.

@@ -7,9 +7,8 @@ use borrow.Author.Tests.{le-ltb}
 use lib.Dec.{eqb}
 use lib.ListN.{length}
 use Rattle.btor2.specs.declared.NodeRef.{NodeRef}
-use Rattle.builder.specs.Prog.{exec}
 use Rattle.builder.specs.declared.Tally.{Tally}
-use Rattle.builder.specs.Append.{at, append}
+use Rattle.builder.specs.Append.{runFor}
 use Rattle.riscv.specs.declared.Instruction.{Instruction}
 use Rattle.state.specs.declared.Counts.{Counts}
 use Rattle.state.specs.declared.State.{State}
@@ -34,11 +33,11 @@ module _ (fits : Bool) (l : Lent) (roles : List NodeRef) (t : Tally) (c : Counts
       n = refusalGiven fits (l .list) (roomIn l) t c i address (flag .0)
 
       p : GivenApart
-      p = acceptedApart l t c i address (exec append (at (l .list) t) (programFrom (readsIn roles flag i) (c .names) i address))
+      p = acceptedApart l t c i address (runFor address (l .list) t (programFrom (readsIn roles flag i) (c .names) i address))
 
       go : (b : Bool) → eqb n 0 ≡ b
           → joined roles (i .rd) (cond b p (refusedApart n l t c (readsIn roles flag i)))
-          ≡ cond b (settled l (stateOf t c roles) i address (exec append (at (l .list) t) (programOf (stateOf t c roles) i address flag))) (refused n l (stateOf t c roles))
+          ≡ cond b (settled l (stateOf t c roles) i address (runFor address (l .list) t (programOf (stateOf t c roles) i address flag))) (refused n l (stateOf t c roles))
       go true q = refl
       go false q = rw q
 

@@ -5,8 +5,8 @@ use mathlib.Core.List.{List}
 use lib.Dec.{eqb}
 use Rattle.btor2.specs.declared.NodeRef.{NodeRef}
 use Rattle.builder.specs.declared.Tally.{Tally}
-use Rattle.builder.specs.Append.{Store, at, append}
-use Rattle.builder.specs.Prog.{Run, exec}
+use Rattle.builder.specs.Append.{Store, runFor}
+use Rattle.builder.specs.Prog.{Run}
 use Rattle.riscv.specs.Class.{class}
 use Rattle.edges.specs.Edges.{edgesAfter}
 use Rattle.models.specs.Places as P
@@ -68,7 +68,7 @@ refusedApart n l t c e = record { refusal = n; tally = t; counts = c; flows = fl
 unfoldable pub callApart : Bool → Lent → Tally → Counts → Reads → Instruction → ℕ → NodeRef → GivenApart
 callApart fits l t c e i address flag =
     let n = refusalGiven fits (l .list) (roomIn l) t c i address (flag .0) in
-    cond (eqb n 0) (acceptedApart l t c i address (exec append (at (l .list) t) (programFrom e (c .names) i address))) (refusedApart n l t c e)
+    cond (eqb n 0) (acceptedApart l t c i address (runFor address (l .list) t (programFrom e (c .names) i address))) (refusedApart n l t c e)
 
 -- with the roles: those that an accepted call sets are set
 abbrev pub rolesAfter : List NodeRef → ℕ → GivenApart → List NodeRef

@@ -23,8 +23,7 @@ ghost use mathlib.Core.Bool.{Bool, not};
 ghost use mathlib.Core.List.{List, _∷_};
 ghost use Rattle.riscv.specs.Refusal.{first};
 ghost use Prim.Native.Nat.{ℕ, _+_, _≤_};
-ghost use Rattle.builder.specs.Append.{at, append};
-ghost use Rattle.builder.specs.Prog.{exec};
+ghost use Rattle.builder.specs.Append.{runFor};
 ghost use Rattle.state.specs.Room.{countsOut};
 ghost use Rattle.btor2_list.specs.Limits.{mostLines, mostNid};
 ghost use Rattle.lowering.specs.Lines.{nameFor, programWith};
@@ -127,7 +126,7 @@ fn accept(
     address: u64,
 ) -> Apart
     requires { ⌜ Ready t c needs i address ⌝ }
-    ensures { λ r. ⌜ givenApart r (lent (now (list .exit)) (now (names .exit)) (now (edges .exit)) (now (dispatches .exit)) (now (bads .exit))) ≡ acceptedWith class z (lent (now (list .entry)) (now (names .entry)) (now (edges .entry)) (now (dispatches .entry)) (now (bads .entry))) t c i address (exec append (at (now (list .entry)) t) (programWith (nameFor class z (c .names) address) z e i address)) ⌝ }
+    ensures { λ r. ⌜ givenApart r (lent (now (list .exit)) (now (names .exit)) (now (edges .exit)) (now (dispatches .exit)) (now (bads .exit))) ≡ acceptedWith class z (lent (now (list .entry)) (now (names .entry)) (now (edges .entry)) (now (dispatches .entry)) (now (bads .entry))) t c i address (runFor address (now (list .entry)) t (programWith (nameFor class z (c .names) address) z e i address)) ⌝ }
 {
     let name = name_for(class, z, c.names, address);
     let m = lower_lines(list, t, name, z, e, i, address);

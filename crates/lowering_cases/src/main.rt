@@ -1,11 +1,12 @@
 // Lowers the instructions of standard input, on the listing's start or on one that it is handed, and writes what each appends. A command a
 // line:
-//   1 ADDRESS KIND RD RS1 RS2 IMM FLAG              lowers an instruction; FLAG is a place, IMM a word of 64 bits
-//   2                                               takes a fresh start
-//   3 LINES NID NAMES EDGES DISPATCHES BADS         sets the tally and the counts
-//   4 ROLE PLACE                                    sets a role
-//   5 PLACE NID KIND SORT OP1 OP2 OP3 IMM AREA AT LEN   puts a line, for another start
-// Command 1 writes its lines as the ten numbers of their records, a bad line's name after it, then edges, dispatches, bads, the tally and
+//   1 ADDRESS KIND RD RS1 RS2 IMM FLAG                               lowers an instruction; FLAG is a place, IMM a word of 64 bits
+//   2                                                                takes a fresh start
+//   3 LINES NID NAMES EDGES DISPATCHES BADS                          sets the tally and the counts
+//   4 ROLE PLACE                                                     sets a role
+//   5 PLACE NID KIND SORT OP1 OP2 OP3 IMM AREA AT LEN MARK ADDRESS   puts a line, for another start
+//   6 PLACE                                                          shows the line at a place, as command 1 shows its own
+// Command 1 writes its lines as the twelve numbers of their records, a bad line's name after it, then edges, dispatches, bads, the tally and
 // the counts, and the places of the 40 flows; or its refusal. Places are those of the list: on the listing's start identifier 20 stands at 0.
 // tools/lowering_cases.py made the commands and what is to be written.
 use btor2::NodeRef;
@@ -31,7 +32,7 @@ const FIRST_FLOW: usize = REGISTER_FLOWS + 1;
 fn main() {
     let mut buffer = [0u8; 65536];
     let n = io::read_full(STDIN_FILENO, &mut buffer);
-    let mut list = [0u64; 3200];
+    let mut list = [0u64; 4000];
     let mut names = [0u8; 1024];
     let mut edges = [0u64; 12];
     let mut dispatches = [0u64; 4];
@@ -98,8 +99,21 @@ fn run_line(
     if which == 4 {
         return read_role(text, from, state);
     }
-    let next = run_put(text, from, list);
+    let next = if which == 5 {
+        run_put(text, from, list)
+    } else {
+        run_show(text, from, list, names)
+    };
     Step { state, next }
+}
+
+fn run_show(text: &[u8], at: usize, list: &[u64], names: &[u8]) -> usize {
+    let place = read_decimal(text, at);
+    let from = place.value as usize;
+    if from < list.len() {
+        show_lines(list, names, from, from + 1);
+    }
+    place.next
 }
 
 fn run_put(text: &[u8], at: usize, list: &mut [u64]) -> usize {

@@ -9,8 +9,8 @@ use borrow.Author.Tests.{lt-ltb, le-ltb, ltb-true, ltb-false, eqb-true}
 use lib.Dec.{eqb, ltb}
 use lib.ListN.{length, replicate, set, length-set, length-replicate}
 use Rattle.btor2.specs.declared.NodeRef.{NodeRef}
-use Rattle.builder.specs.Append.{Store, at, append}
-use Rattle.builder.specs.Prog.{Run, exec}
+use Rattle.builder.specs.Append.{Store, at, runFor}
+use Rattle.builder.specs.Prog.{Run}
 use Rattle.edges.specs.Edges.{edge, edgeCount, edgesAfter}
 use Rattle.btor2_list.specs.Records.{putRecord}
 use Rattle.riscv.specs.declared.Class.{Class}
@@ -163,7 +163,7 @@ module _ (l n d b : List ℕ) (es : List InEdge) (st : State) (i : Instruction) 
 
   whole : Whole (lowering own (withEdges st u) i address flag) (lowering theirs st i address flag)
   unfolding loweringGiven programOf number
-  whole = rw same-refusal (either (exec append (at l (st .tally)) (programOf st i address flag)) (eqb number 0) refl)
+  whole = rw same-refusal (either (runFor address l (st .tally) (programOf st i address flag)) (eqb number 0) refl)
 
   pub same-answer : (a : Answer) → a ≡ lowering own (withEdges st u) i address flag → Whole a (lowering theirs st i address flag)
   same-answer a e = subst (λ (x : Answer). Whole x (lowering theirs st i address flag)) (sym e) whole

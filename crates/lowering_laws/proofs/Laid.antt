@@ -9,6 +9,7 @@ use native.Mathlib.Nat.{mod-eq-of-lt}
 use borrow.Author.Tests.{lt-ltb}
 use lib.ListN.{length, getD}
 use Rattle.btor2.specs.Op.{Op, hasInit, identifiers}
+use Rattle.btor2_list.specs.declared.MaybeAddress.{MaybeAddress}
 use Rattle.btor2_list.specs.Record.{holds, putAt, capacity, wordsFor}
 use Rattle.btor2_list.specs.Node.{Node, node, lineOf}
 use Rattle.btor2_list.specs.View.{view}
@@ -17,7 +18,7 @@ use Rattle.btor2_list.proofs.View.{node-back, view-put}
 use Rattle.btor2_list.proofs.Fitting.{areaFits, line-fits}
 use Rattle.builder.specs.Prog.{Prog, done, line, Run, ran, exec}
 use Rattle.builder.specs.declared.Tally.{Tally}
-use Rattle.builder.specs.Append.{Store, at, appendLine, append}
+use Rattle.builder.specs.Append.{Store, at, appendLine, appendFor}
 use Rattle.builder.specs.Lines.{linesOf, placeAfter}
 use Rattle.builder.proofs.Result.{resultOf}
 use Rattle.lowering_laws.specs.Lines.{taking, numbered}
@@ -38,10 +39,10 @@ unfolding taking
 taking-most [] = omega arith
 taking-most (o ∷ os) = omega (arith, at-most-two (hasInit o), taking-most os)
 
--- what a run of the program p from ws and t has done, m being how many lines p has from the k-th on after n others
-pub record Laid {X : Type 0} (n k m : ℕ) (ws : List ℕ) (t : Tally) (p : Prog ℕ X) (r : Run Store X) : Type 0 where
+-- what a run of the program p from ws and t has done, m being how many lines p has from the k-th on after n others, each with the address or none
+pub record Laid {X : Type 0} (w : MaybeAddress) (n k m : ℕ) (ws : List ℕ) (t : Tally) (p : Prog ℕ X) (r : Run Store X) : Type 0 where
   pub value : r .value ≡ resultOf (placeAfter n) k p
-  pub nodes : view (r .state .words) (r .state .tally .lines) ≡ view ws (t .lines) ++ numbered (t .nid) (linesOf (placeAfter n) k p)
+  pub nodes : view (r .state .words) (r .state .tally .lines) ≡ view ws (t .lines) ++ numbered w (t .nid) (linesOf (placeAfter n) k p)
   pub lines : r .state .tally .lines ≡ t .lines + m
   pub nids : r .state .tally .nid ≡ t .nid + taking (linesOf (placeAfter n) k p)
   pub size : length (r .state .words) ≡ length ws
@@ -51,8 +52,8 @@ pub record Laid {X : Type 0} (n k m : ℕ) (ws : List ℕ) (t : Tally) (p : Prog
 abbrev next : Tally → Op ℕ → Tally
 next t o = record { lines = t .lines + 1; nid = t .nid + identifiers o }
 
-abbrev put : List ℕ → Tally → Op ℕ → List ℕ
-put ws t o = putAt ws (t .lines) (lineOf (t .nid) o)
+abbrev put : MaybeAddress → List ℕ → Tally → Op ℕ → List ℕ
+put w ws t o = putAt ws (t .lines) (lineOf w (t .nid) o)
 
 and-both : (a b : Bool) → (a && b) ≡ true → (a ≡ true) × (b ≡ true)
 and-both true b e = (refl, e)
@@ -61,20 +62,20 @@ and-both false b e = absurd (true≢false (sym e))
 there : (ws : List ℕ) (t : Tally) (m d : ℕ) → RoomForLines ws t (suc m) d → holds ws (t .lines) ≡ true
 there ws t m d r = lt-ltb (t .lines) (capacity (length ws)) (omega (arith, r .lines))
 
-append-room : (ws : List ℕ) (t : Tally) (o : Op ℕ) (m d : ℕ) → RoomForLines ws t (suc m) (identifiers o + d) → append (at ws t) o ≡ ran (at (put ws t o) (next t o)) (t .lines)
+append-room : (w : MaybeAddress) (ws : List ℕ) (t : Tally) (o : Op ℕ) (m d : ℕ) → RoomForLines ws t (suc m) (identifiers o + d) → appendFor w (at ws t) o ≡ ran (at (put w ws t o) (next t o)) (t .lines)
 unfolding appendLine
-append-room ws t o m d r = rw (there ws t m _ r, ap (λ (x : Node). identifiers (x .op)) (node-back (t .nid) o), mod-eq-of-lt {n = t .nid + identifiers o} {m = 2 ^ 64} (omega (arith, r .nids)))
+append-room w ws t o m d r = rw (there ws t m _ r, ap (λ (x : Node). identifiers (x .op)) (node-back w (t .nid) o), mod-eq-of-lt {n = t .nid + identifiers o} {m = 2 ^ 64} (omega (arith, r .nids)))
 
-room-next : (ws : List ℕ) (t : Tally) (o : Op ℕ) (m d : ℕ) → RoomForLines ws t (suc m) (identifiers o + d) → RoomForLines (put ws t o) (next t o) m d
-room-next ws t o m d r = record {
-  lines = rw (put-length ws (t .lines) (lineOf (t .nid) o)) (omega (arith, r .lines));
+room-next : (w : MaybeAddress) (ws : List ℕ) (t : Tally) (o : Op ℕ) (m d : ℕ) → RoomForLines ws t (suc m) (identifiers o + d) → RoomForLines (put w ws t o) (next t o) m d
+room-next w ws t o m d r = record {
+  lines = rw (put-length ws (t .lines) (lineOf w (t .nid) o)) (omega (arith, r .lines));
   nids = omega (arith, r .nids);
 }
 
-pub laid : {X : Type 0} (p : Prog ℕ X) (n k : ℕ) (ws : List ℕ) (t : Tally) → t .lines ≡ n + k → RoomForLines ws t (length (linesOf (placeAfter n) k p)) (taking (linesOf (placeAfter n) k p)) → fitting (linesOf (placeAfter n) k p) ≡ true
-    → Laid n k (length (linesOf (placeAfter n) k p)) ws t p (exec append (at ws t) p)
+pub laid : {X : Type 0} (w : MaybeAddress) (p : Prog ℕ X) (n k : ℕ) (ws : List ℕ) (t : Tally) → t .lines ≡ n + k → RoomForLines ws t (length (linesOf (placeAfter n) k p)) (taking (linesOf (placeAfter n) k p)) → fitting (linesOf (placeAfter n) k p) ≡ true
+    → Laid w n k (length (linesOf (placeAfter n) k p)) ws t p (exec (appendFor w) (at ws t) p)
 unfolding linesOf resultOf numbered taking
-laid (done x) n k ws t e r fit = record {
+laid w (done x) n k ws t e r fit = record {
   value = refl;
   nodes = sym (append-nil (view ws (t .lines)));
   lines = omega arith;
@@ -83,10 +84,10 @@ laid (done x) n k ws t e r fit = record {
   below = λ j h. refl;
   above = λ j h. refl;
 }
-laid {X} (line o f) n k ws t e r fit =
-    subst (λ (g : Run Store ℕ). Laid n k (suc m) ws t (line o f) (exec append (g .state) (f (g .value))))
-    (sym (append-room ws t o m d r ∙ ap (λ j. ran (at (put ws t o) (next t o)) j) e))
-    (go (laid (f (n + k)) n (k + 1) (put ws t o) (next t o) (omega arith) (room-next ws t o m d r) (both .1)))
+laid {X} w (line o f) n k ws t e r fit =
+    subst (λ (g : Run Store ℕ). Laid w n k (suc m) ws t (line o f) (exec (appendFor w) (g .state) (f (g .value))))
+    (sym (append-room w ws t o m d r ∙ ap (λ j. ran (at (put w ws t o) (next t o)) j) e))
+    (go (laid w (f (n + k)) n (k + 1) (put w ws t o) (next t o) (omega arith) (room-next w ws t o m d r) (both .1)))
   where
     m : ℕ
     m = length (linesOf (placeAfter n) (k + 1) (f (n + k)))
@@ -97,16 +98,16 @@ laid {X} (line o f) n k ws t e r fit =
     both : (areaFits o ≡ true) × (fitting (linesOf (placeAfter n) (k + 1) (f (n + k))) ≡ true)
     both = and-both (areaFits o) _ fit
 
-    placed : view (put ws t o) (t .lines + 1) ≡ view ws (t .lines) ++ (node (t .nid) o ∷ [])
-    placed = view-put ws (t .lines) (lineOf (t .nid) o) (there ws t m _ r) (line-fits (t .nid) (omega (arith, r .nids)) o (both .0)) ∙ ap (λ (x : Node). view ws (t .lines) ++ (x ∷ [])) (node-back (t .nid) o)
+    placed : view (put w ws t o) (t .lines + 1) ≡ view ws (t .lines) ++ (node w (t .nid) o ∷ [])
+    placed = view-put ws (t .lines) (lineOf w (t .nid) o) (there ws t m _ r) (line-fits w (t .nid) (omega (arith, r .nids)) o (both .0)) ∙ ap (λ (x : Node). view ws (t .lines) ++ (x ∷ [])) (node-back w (t .nid) o)
 
-    go : {g : Run Store X} → Laid n (k + 1) m (put ws t o) (next t o) (f (n + k)) g → Laid n k (suc m) ws t (line o f) g
+    go : {g : Run Store X} → Laid w n (k + 1) m (put w ws t o) (next t o) (f (n + k)) g → Laid w n k (suc m) ws t (line o f) g
     go h = record {
       value = h .value;
-      nodes = h .nodes ∙ ap (λ l. l ++ numbered (t .nid + identifiers o) (linesOf (placeAfter n) (k + 1) (f (n + k)))) placed ∙ append-assoc (view ws (t .lines)) _ _;
+      nodes = h .nodes ∙ ap (λ l. l ++ numbered w (t .nid + identifiers o) (linesOf (placeAfter n) (k + 1) (f (n + k)))) placed ∙ append-assoc (view ws (t .lines)) _ _;
       lines = omega (arith, h .lines);
       nids = omega (arith, h .nids);
-      size = h .size ∙ put-length ws (t .lines) (lineOf (t .nid) o);
-      below = λ j l. h .below j (omega arith) ∙ put-elsewhere-below ws (t .lines) (lineOf (t .nid) o) j l;
-      above = λ j l. h .above j (omega arith) ∙ put-elsewhere-above ws (t .lines) (lineOf (t .nid) o) j (omega arith);
+      size = h .size ∙ put-length ws (t .lines) (lineOf w (t .nid) o);
+      below = λ j l. h .below j (omega arith) ∙ put-elsewhere-below ws (t .lines) (lineOf w (t .nid) o) j l;
+      above = λ j l. h .above j (omega arith) ∙ put-elsewhere-above ws (t .lines) (lineOf w (t .nid) o) j (omega arith);
     }

@@ -8,8 +8,8 @@ use borrow.Author.Tests.{ne-eqb}
 use lib.Dec.{ltb}
 use lib.ListN.{length}
 use Rattle.btor2.specs.declared.NodeRef.{NodeRef}
-use Rattle.builder.specs.Prog.{exec}
-use Rattle.builder.specs.Append.{at, append}
+use Rattle.btor2_list.specs.declared.MaybeAddress.the-variants.{Address}
+use Rattle.builder.specs.Append.{runFor}
 use Rattle.riscv.specs.Class.{class}
 use Rattle.riscv.proofs.Most.{at-most}
 use Rattle.riscv.specs.declared.Instruction.{Instruction}
@@ -69,10 +69,10 @@ module _ (l : Lent) (st : State) (i : Instruction) (address : ℕ) (flag : NodeR
     abbrev after-them : ℕ → ℕ
     after-them = placeAfter (st .tally .lines)
 
-    pub run : Laid (st .tally .lines) 0 (growth i) (l .list) (st .tally) (programOf st i address flag) (exec append (at (l .list) (st .tally)) (programOf st i address flag))
+    pub run : Laid (Address address) (st .tally .lines) 0 (growth i) (l .list) (st .tally) (programOf st i address flag) (runFor address (l .list) (st .tally) (programOf st i address flag))
     run =
-        subst (λ m. Laid (st .tally .lines) 0 m (l .list) (st .tally) (programOf st i address flag) (exec append (at (l .list) (st .tally)) (programOf st i address flag))) (grown after-them)
-        (laid (programOf st i address flag) (st .tally .lines) 0 (l .list) (st .tally) (sym (add-zero _)) (rw (grown after-them, taken after-them) room) (fit after-them))
+        subst (λ m. Laid (Address address) (st .tally .lines) 0 m (l .list) (st .tally) (programOf st i address flag) (runFor address (l .list) (st .tally) (programOf st i address flag))) (grown after-them)
+        (laid (Address address) (programOf st i address flag) (st .tally .lines) 0 (l .list) (st .tally) (sym (add-zero _)) (rw (grown after-them, taken after-them) room) (fit after-them))
 
     pub when-accepted : Accepted l st i address flag (lowering l st i address flag)
     unfolding loweringGiven settled needsOf

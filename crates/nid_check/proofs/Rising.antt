@@ -10,9 +10,9 @@ use lib.Dec.{leb, ltb, eqb}
 use lib.ListN.{length, drop, drop-of-length-le}
 use lib.Seq.{drop-cons}
 use Rattle.bitvec.proofs.Base.{by-le}
-use Rattle.btor2.specs.Op.{unknown, hasInit}
+use Rattle.btor2.specs.Op.{hasInit}
 use Rattle.btor2_list.specs.Record.{recordAt}
-use Rattle.btor2_list.specs.Node.{Node, node, nodeOf}
+use Rattle.btor2_list.specs.Node.{Node, noNode, nodeOf}
 use Rattle.btor2_list.specs.View.{view}
 use Rattle.btor2_list.proofs.View.{view-length, view-at}
 use Rattle.list_check.specs.Lines.{any}
@@ -84,8 +84,8 @@ module _ (next last : ℕ) (x : Node) (us : List ℕ) where
 module _ (ws : List ℕ) (n next last i : ℕ) where
   rest : i < n → drop i (view ws n) ≡ nodeOf (recordAt ws i) ∷ drop (i + 1) (view ws n)
   rest h =
-      rw (add-one, ← view-at ws n (node 0 unknown) i h)
-      (drop-cons (view ws n) i (node 0 unknown) (rw (view-length ws n) h))
+      rw (add-one, ← view-at ws n noNode i h)
+      (drop-cons (view ws n) i noNode (rw (view-length ws n) h))
 
   pub rise-on : i < n → (t : ℕ) → riseOf next last (nodeOf (recordAt ws i)) ≡ To t
       → outFrom next t (taken (drop (i + 1) (view ws n))) ≡ outFrom next last (taken (drop i (view ws n)))

@@ -1,6 +1,6 @@
 // Prints lines of a list that the commands of standard input fill, a command a line:
-//   1 PLACE NID KIND SORT OP1 OP2 OP3 IMM AREA AT LEN   puts a record into a list of 128 records and three words
-//   2 LINES FROM COUNT ROOM                             prints a run into an output of ROOM bytes, all full stops before
+//   1 PLACE NID KIND SORT OP1 OP2 OP3 IMM AREA AT LEN MARK ADDRESS   puts a record into a list of 128 records and three words
+//   2 LINES FROM COUNT ROOM                                          prints a run into an output of ROOM bytes, all full stops before
 // Command 2 writes the length and the text, or the refusal, and then how many full stops are left after the text.
 // tools/print_cases.py made the commands and what is to be written; the text is what the unchanged Rust prints.
 use cases::read_decimal;
@@ -13,7 +13,7 @@ use print::Printed;
 fn main() {
     let mut buffer = [0u8; 262144];
     let n = io::read_full(STDIN_FILENO, &mut buffer);
-    let mut list = [0u64; 515];
+    let mut list = [0u64; 643];
     run(&buffer[..n], &mut list);
 }
 

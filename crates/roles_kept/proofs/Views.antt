@@ -11,11 +11,12 @@ use Rattle.btor2.specs.declared.NodeType.the-variants.{Bit, Word, Memory, Input
 use Rattle.btor2.specs.declared.MaybeSort.{MaybeSort}
 use Rattle.btor2.specs.declared.MaybeSort.the-variants.{Sort, NoSort}
 use Rattle.btor2.specs.Sort.{sortNumber, sortOrNone}
-use Rattle.btor2.specs.Op.{Op, unknown, carried, identifiers}
+use Rattle.btor2.specs.Op.{Op, carried, identifiers}
 use Rattle.btor2.specs.SortRule.{hasSort}
 use Rattle.btor2.proofs.LineIs.{lineIs}
+use Rattle.btor2_list.specs.declared.MaybeAddress.{MaybeAddress}
 use Rattle.btor2_list.specs.Record.{wordsFor}
-use Rattle.btor2_list.specs.Node.{Node, node}
+use Rattle.btor2_list.specs.Node.{Node, noNode}
 use Rattle.btor2_list.specs.View.{view}
 use Rattle.btor2_list.specs.Look.{lookAt}
 use Rattle.btor2_list.proofs.View.{view-length}
@@ -30,10 +31,10 @@ unfolding operators
 operators-length ws n = length-map (view ws n) (λ line. line .op) ∙ view-length ws n
 
 -- lines under identifiers are the lines
-pub numbered-operators : (nid : ℕ) (os : List (Op ℕ)) → map (λ line. line .op) (numbered nid os) ≡ os
+pub numbered-operators : (w : MaybeAddress) (nid : ℕ) (os : List (Op ℕ)) → map (λ line. line .op) (numbered w nid os) ≡ os
 unfolding numbered
-numbered-operators nid [] = refl
-numbered-operators nid (o ∷ os) = ap (λ l. o ∷ l) (numbered-operators (nid + identifiers o) os)
+numbered-operators w nid [] = refl
+numbered-operators w nid (o ∷ os) = ap (λ l. o ∷ l) (numbered-operators w (nid + identifiers o) os)
 
 pub map-append : (l m : List Node) → map (λ line. line .op) (l ++ m) ≡ map (λ line. line .op) l ++ map (λ line. line .op) m
 map-append [] m = refl
@@ -63,8 +64,8 @@ look-is ws n room p s e =
     by-le n p
     (λ h. absurd (omega (arith, positive s, sym (ap valueSort (look-past ws n room p h)) ∙ e)))
     (λ h.
-    subst (λ (o : Op ℕ). T (hasSort s (carried o))) (sym (List·getD-map (λ (line : Node). line .op) (view ws n) p (node 0 unknown)))
-    (seen-is (carried (getD (view ws n) p (node 0 unknown) .op)) s (sym (ap valueSort (look-line ws n room p (node 0 unknown) h)) ∙ e)))
+    subst (λ (o : Op ℕ). T (hasSort s (carried o))) (sym (List·getD-map (λ (line : Node). line .op) (view ws n) p noNode))
+    (seen-is (carried (getD (view ws n) p noNode .op)) s (sym (ap valueSort (look-line ws n room p noNode h)) ∙ e)))
 
 -- and back
 is-seen : (m : MaybeSort) (s : NodeType) → T (hasSort s m) → sortOrNone m ≡ sortNumber s
@@ -74,6 +75,6 @@ is-seen NoSort s h = absurd h
 pub is-look : (ws : List ℕ) (n : ℕ) → wordsFor n ≤ length ws → (p : ℕ) (s : NodeType) → T (lineIs s (operators ws n) p) → valueSort (lookAt ws n p) ≡ sortNumber s
 unfolding lineIs operators
 is-look ws n room p s h =
-    ap valueSort (look-line ws n room p (node 0 unknown) (rw (operators-length ws n) at (inside s (operators ws n) p h)))
-    ∙ is-seen (carried (getD (view ws n) p (node 0 unknown) .op)) s
-    (subst (λ (o : Op ℕ). T (hasSort s (carried o))) (List·getD-map (λ (line : Node). line .op) (view ws n) p (node 0 unknown)) h)
+    ap valueSort (look-line ws n room p noNode (rw (operators-length ws n) at (inside s (operators ws n) p h)))
+    ∙ is-seen (carried (getD (view ws n) p noNode .op)) s
+    (subst (λ (o : Op ℕ). T (hasSort s (carried o))) (List·getD-map (λ (line : Node). line .op) (view ws n) p noNode) h)

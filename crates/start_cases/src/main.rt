@@ -1,8 +1,8 @@
 // Checks the starts that standard input describes, and writes what each is refused with, 0 for none. A command a line:
-//   1 PLACE NID KIND SORT OP1 OP2 OP3 IMM AREA AT LEN   puts a record
-//   2 LINES NID NAMES EDGES DISPATCHES BADS             sets the tally and the counts
-//   3 ROLE PLACE                                        sets a role
-//   4 WORDS HOST NAMES EDGES DISPATCHES BADS            lends as much of each list and area, and checks the start
+//   1 PLACE NID KIND SORT OP1 OP2 OP3 IMM AREA AT LEN MARK ADDRESS   puts a record
+//   2 LINES NID NAMES EDGES DISPATCHES BADS                          sets the tally and the counts
+//   3 ROLE PLACE                                                     sets a role
+//   4 WORDS HOST NAMES EDGES DISPATCHES BADS                         lends as much of each list and area, and checks the start
 // What a command sets stays for those after it. tools/start_cases.py made the commands and what is to be written.
 use btor2::NodeRef;
 use builder::Tally;
@@ -20,7 +20,7 @@ use state::State;
 fn main() {
     let mut buffer = [0u8; 262144];
     let n = io::read_full(STDIN_FILENO, &mut buffer);
-    let mut list = [0u64; 400];
+    let mut list = [0u64; 500];
     run(&buffer[..n], &mut list);
 }
 

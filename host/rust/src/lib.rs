@@ -1,5 +1,6 @@
-//! Lowering RV64 instructions to BTOR2 lines, joining their edges into flags and evaluating lines on given values: safe calls of libhost.a. The
-//! layout of lines, edges, dispatches, bads, flags, the state's words and the records of values stands in host/lanthanumbat.h.
+//! Lowering RV64 instructions to BTOR2 lines, each with the address of its instruction, joining their edges into flags and evaluating lines on
+//! given values: safe calls of libhost.a. The layout of lines, edges, dispatches, bads, flags, the state's words and the records of values stands
+//! in host/lanthanumbat.h.
 
 mod ffi {
     extern "C" {
@@ -38,12 +39,14 @@ mod ffi {
             list: *const u64, list_words: usize, lines: usize, values: *const u64, values_words: usize,
             memory: *const u64, memory_words: usize, asked: usize, value: *mut u64, visits: *mut u64,
         ) -> u64;
+        pub fn lanthanumbat_address(list: *const u64, list_words: usize, lines: usize, place: usize, address: *mut u64) -> u64;
     }
 }
 
-/// The first word of a line. `area` is that of its name, `init` not 0 for a state that has one. A number that its field cannot hold becomes
-/// the largest that it can, 255 or 2^32 - 1, which no start that is accepted has.
-pub const fn head(identifier: u64, kind: u64, sort: u64, area: u64, init: u64) -> u64 {
+/// The first word of a line. `area` is that of its name, `init` not 0 for a state that has one, `addressed` not 0 for a line that has an address,
+/// which is its last word. A number that its field cannot hold becomes the largest that it can, 255 or 2^32 - 1, which no start that is accepted
+/// has.
+pub const fn head(identifier: u64, kind: u64, sort: u64, area: u64, init: u64, addressed: u64) -> u64 {
     const fn at_most(number: u64, most: u64) -> u64 {
         if number < most {
             number
@@ -53,6 +56,7 @@ pub const fn head(identifier: u64, kind: u64, sort: u64, area: u64, init: u64) -
     }
     const BYTE: u64 = u8::MAX as u64;
     at_most(identifier, u32::MAX as u64) << 32
+        | at_most(addressed, 1) << 28
         | at_most(init, 1) << 24
         | at_most(area, BYTE) << 16
         | at_most(sort, BYTE) << 8
@@ -70,7 +74,7 @@ pub const BENCH_LINES: usize = 4096;
 pub const MOST_VISITS: u64 = 100_000;
 
 /// The words of a line, an edge, a dispatch, a flag, the state, a call, and the records of a value and of a memory's word.
-pub const LINE: usize = 4;
+pub const LINE: usize = 5;
 pub const EDGE: usize = 4;
 pub const DISPATCH: usize = 2;
 pub const FLAG: usize = 2;
@@ -150,7 +154,7 @@ impl Lent<'_> {
         self.state[0] as usize
     }
 
-    /// Lowers an instruction at an address under the flag at a place, or under [`NO_FLAG`].
+    /// Lowers an instruction at an address under the flag at a place, or under [`NO_FLAG`]. Each line that it appends has the address.
     pub fn lower(&mut self, i: Instruction, address: u64, flag: usize) -> Result<(), Refusal> {
         // The slices are borrowed apart from each other, and the library keeps no pointer.
         #[rustfmt::skip]
@@ -165,7 +169,8 @@ impl Lent<'_> {
         refused(number)
     }
 
-    /// Lowers call after call, up to the first that is refused. Gives how many were accepted, and that one's refusal.
+    /// Lowers call after call, up to the first that is refused. Each line has the address of the call that appended it. Gives how many were
+    /// accepted, and that one's refusal.
     pub fn lower_all(&mut self, calls: &[[u64; CALL]]) -> (usize, Result<(), Refusal>) {
         let calls = calls.as_flattened();
         let mut number = 0;
@@ -181,7 +186,7 @@ impl Lent<'_> {
         (done, refused(number))
     }
 
-    /// Joins edges, then dispatches, into the starting flow. Gives the place of the new flow.
+    /// Joins edges, then dispatches, into the starting flow. The lines that it appends have no address. Gives the place of the new flow.
     pub fn join(&mut self, sequentials: &mut Sequentials, j: Join) -> Result<usize, Refusal> {
         let (edges, dispatches, flags) = (j.edges.as_flattened(), j.dispatches.as_flattened(), j.flags.as_flattened());
         let mut flow = j.flow;
@@ -223,6 +228,14 @@ impl Lent<'_> {
         };
         refused(number)?;
         Ok(written as usize)
+    }
+
+    /// The address of the instruction that the line at a place was lowered for. None where there is no such line in use, or it has none.
+    pub fn address(&self, place: usize) -> Option<u64> {
+        let mut address = 0;
+        // The slice is borrowed, and the library writes to `address` alone.
+        let found = unsafe { ffi::lanthanumbat_address(self.list.as_ptr(), self.list.len(), self.lines(), place, &mut address) };
+        (found == 1).then_some(address)
     }
 }
 

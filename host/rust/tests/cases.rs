@@ -2,12 +2,13 @@
 mod common;
 
 use common::*;
-use lanthanumbat::{Lent, Refusal, CALL, DISPATCH, EDGE, LINE};
+use lanthanumbat::{Refusal, CALL, DISPATCH, EDGE, LINE};
 use std::fmt::Write;
 
 const DISPATCHES_USED: usize = 4;
 const BADS_USED: usize = 5;
 const FIRST_FLOW: usize = FIRST_ROLE + 39;
+const OUR_AREA: u64 = 2;
 const CASES: &str = "lowering_cases";
 
 // What that program lends.
@@ -18,17 +19,27 @@ fn storage() -> Storage {
     s
 }
 
+// The line at a place, and its name where lines of its kind have one, in that program's words.
+fn shown_line(s: &Storage, place: usize) -> String {
+    let line = &s.list[place * LINE..(place + 1) * LINE];
+    let [first, a, b, c, _] = *line else { panic!() };
+    let (kind, sort, area) = (first & 255, first >> 8 & 255, first >> 16 & 255);
+    let imm = if kind == STATE_LINE { first >> 24 & 15 } else { a };
+    let mut out = format!("{} {kind} {sort} {a} {b} {c} {imm} {area} {b} {c} {}\n", first >> 32, shown_address(line));
+    if [STATE_LINE, INPUT, BAD].contains(&kind) {
+        let name = if area == OUR_AREA { &s.names[b as usize..(b + c) as usize] } else { b"" };
+        out += std::str::from_utf8(name).unwrap();
+        out.push('\n');
+    }
+    out
+}
+
 // What a call appended, in that program's words.
 fn shown(s: &Storage, before: &Storage) -> String {
     let mut out = String::new();
     let run = |count: usize| before.state[count] as usize..s.state[count] as usize;
-    for line in run(LINES_USED).map(|place| &s.list[place * LINE..(place + 1) * LINE]) {
-        let (kind, sort, area) = (line[0] & 255, line[0] >> 8 & 255, line[0] >> 16 & 255);
-        let [_, a, b, c] = *line else { panic!() };
-        writeln!(out, "{} {} {} {a} {b} {c} {a} {area} {b} {c}", line[0] >> 32, kind, sort).unwrap();
-        if kind == BAD {
-            writeln!(out, "{}", std::str::from_utf8(&s.names[b as usize..(b + c) as usize]).unwrap()).unwrap();
-        }
+    for place in run(LINES_USED) {
+        out += &shown_line(s, place);
     }
     for e in run(EDGES_USED).map(|place| &s.edges[place * EDGE..(place + 1) * EDGE]) {
         writeln!(out, "edge {} {} {} {}", e[0], e[1], e[2], e[3]).unwrap();
@@ -69,6 +80,7 @@ fn one_by_one() {
             3 => s.state[..FIRST_ROLE].copy_from_slice(&numbers[1..]),
             4 => s.state[FIRST_ROLE + numbers[1] as usize] = numbers[2],
             5 => put(&mut s.list, &numbers[1..]),
+            6 => out += &shown_line(&s, numbers[1] as usize),
             other => panic!("{other}"),
         }
     }
@@ -104,7 +116,8 @@ fn many_in_one() {
             2 => one.restart(),
             3 => one.state[..FIRST_ROLE].copy_from_slice(&numbers[1..]),
             4 => one.state[FIRST_ROLE + numbers[1] as usize] = numbers[2],
-            _ => put(&mut one.list, &numbers[1..]),
+            5 => put(&mut one.list, &numbers[1..]),
+            _ => (), // a line is shown, and nothing changes
         }
         first = one.clone();
         calls.clear();
@@ -118,8 +131,4 @@ fn roomy() -> Storage {
     s.dispatches = vec![0; 100 * DISPATCH];
     s.bads = vec![0; 100];
     s
-}
-
-fn lower(l: &mut Lent, [address, kind, rd, rs1, rs2, imm, flag]: [u64; CALL]) -> Result<(), Refusal> {
-    l.lower(instruction(kind, rd, rs1, rs2, imm as i64), address, flag as usize)
 }

@@ -38,16 +38,15 @@ fn asked(s: &Storage, place: usize, values: &[[u64; VALUE]], memory: &[[u64; CEL
 }
 
 // Puts a line after those in use. Gives its place.
-fn push(s: &mut Storage, first: u64, operands: [u64; 3]) -> usize {
+fn push(s: &mut Storage, first: u64, [a, b, c]: [u64; 3]) -> usize {
     let place = s.state[LINES_USED] as usize;
-    s.list[place * LINE] = first;
-    s.list[place * LINE + 1..(place + 1) * LINE].copy_from_slice(&operands);
+    s.list[place * LINE..(place + 1) * LINE].copy_from_slice(&[first, a, b, c, 0]);
     s.state[LINES_USED] += 1;
     place
 }
 
 fn line(kind: u64, sort: u64) -> u64 {
-    head(0, kind, sort, 0, 0)
+    head(0, kind, sort, 0, 0, 0)
 }
 
 // The start, and what two instructions append.
@@ -59,7 +58,7 @@ fn example() -> Storage {
     s
 }
 
-// Waiting visits take up to 464 bytes of stack each, 1.9 MB for the deepest list, and the thread of a test has 2 MiB, of which the test takes some: deep
+// Waiting visits take up to 432 bytes of stack each, 1.8 MB for the deepest list, and the thread of a test has 2 MiB, of which the test takes some: deep
 // lists get a larger one.
 fn with_stack(work: impl FnOnce() + Send + 'static) {
     thread::Builder::new().stack_size(4 << 20).spawn(work).unwrap().join().unwrap();
@@ -103,7 +102,7 @@ fn records() {
     let flow = s.state[FLOWS + 5] as usize;
     let byte = push(&mut s, line(INPUT, BYTE), [0; 3]);
     let word = push(&mut s, line(UEXT, BYTE), [byte as u64, 0, 0]);
-    let with_init = push(&mut s, head(0, STATE_LINE, WORD, 0, 1), [ONE_WORD, 0, 0]);
+    let with_init = push(&mut s, head(0, STATE_LINE, WORD, 0, 1, 0), [ONE_WORD, 0, 0]);
     assert_eq!(asked(&s, flow, &[[X5 as u64, 7], [X5 as u64, 8]], &[]), value(7, 3)); // the first counts
     assert_eq!(asked(&s, flow, &[[X5 as u64, 7], [FLAG as u64, 6]], &[]), value(7, 3)); // a flag has one bit
     assert_eq!(asked(&s, FLAG, &[[FLAG as u64, u64::MAX]], &[]), value(1, 1));
@@ -173,7 +172,8 @@ fn lists_that_are_not_fit() {
     assert_eq!(with(line(23, WORD), [0; 3]), Err(Refusal(19)));
     assert_eq!(with(line(CONST, 4), [0; 3]), Err(Refusal(19)));
     assert_eq!(with(line(NOT, BIT), [last, 0, 0]), Err(Refusal(19))); // its own place
-    assert_eq!(with(head(0, STATE_LINE, WORD, 0, 1), [u64::MAX, 0, 0]), Err(Refusal(19)));
+    assert_eq!(with(head(0, STATE_LINE, WORD, 0, 1, 0), [u64::MAX, 0, 0]), Err(Refusal(19)));
+    assert_eq!(with(head(0, STATE_LINE, WORD, 0, 0, 1), [u64::MAX, 0, 0]), value(0, 1)); // an address is no init
     let mut s = example();
     let next = push(&mut s, line(NEXT, BIT), [flag, flag, 0]);
     assert_eq!(asked(&s, X5, &[], &[]), value(0, 1));
@@ -183,7 +183,7 @@ fn lists_that_are_not_fit() {
 
 #[test]
 fn lines_that_are_not_there() {
-    let list = [line(STATE_LINE, WORD), 0, 0, 0].repeat(BENCH_LINES + 1);
+    let list = [line(STATE_LINE, WORD), 0, 0, 0, 0].repeat(BENCH_LINES + 1);
     let first = |words: usize, lines, place| evaluate(&list[..words], lines, Given::default(), place);
     assert_eq!(first(list.len(), BENCH_LINES, BENCH_LINES - 1), value(0, 1));
     assert_eq!(first(list.len(), BENCH_LINES + 1, 0), Err(Refusal(19)));
@@ -230,9 +230,9 @@ fn the_first_refusal_is_given() {
 #[test]
 fn the_deepest_list() {
     with_stack(|| {
-        let mut list = vec![line(STATE_LINE, BIT), 0, 0, 0];
+        let mut list = vec![line(STATE_LINE, BIT), 0, 0, 0, 0];
         for last in 0..BENCH_LINES as u64 - 1 {
-            list.extend([line(EQ, BIT), last, 0, 0]);
+            list.extend([line(EQ, BIT), last, 0, 0, 0]);
         }
         let visits = 2 * BENCH_LINES as u64 - 1;
         assert_eq!(evaluate(&list, BENCH_LINES, Given::default(), BENCH_LINES - 1), value(1, visits));
@@ -287,12 +287,12 @@ struct Desk {
 }
 
 impl Desk {
-    // Lines; `placed` tells whether each one's own place is added to its words after the first.
+    // Lines, whose last word is 0; `placed` tells whether each one's own place is added to its operands.
     fn append_lines(&mut self, placed: bool, numbers: &[u64]) {
         let [count, first, a, b, c] = *numbers else { panic!() };
         for _ in 0..count {
             let place = if placed { (self.list.used / LINE) as u64 } else { 0 };
-            self.list.append(&[first, a.wrapping_add(place), b.wrapping_add(place), c.wrapping_add(place)]);
+            self.list.append(&[first, a.wrapping_add(place), b.wrapping_add(place), c.wrapping_add(place), 0]);
         }
     }
 
@@ -313,7 +313,7 @@ impl Desk {
 }
 
 fn stored_evaluations() {
-    let mut desk = Desk { list: Area::new(16_400), values: Area::new(256), memory: Area::new(384) };
+    let mut desk = Desk { list: Area::new(4_100 * LINE), values: Area::new(256), memory: Area::new(384) };
     let (mut out, mut calls) = (String::new(), 0);
     for command in stored(CASES, "stdin").lines() {
         let numbers: Vec<u64> = command.split(' ').map(|number| number.parse().unwrap()).collect();

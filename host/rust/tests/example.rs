@@ -21,6 +21,8 @@ fn the_example() {
     assert_eq!(text(&l, START), "59 constd 2 4096\n60 ite 2 58 59 28\n61 ult 1 28 29\n62 not 1 61\n");
     let edges = [65540, 65536, 0, u64::MAX, 65536, 65540, 1, 41, 65544, 65540, 1, 42];
     assert_eq!((l.state[3], &l.edges[..12]), (3, &edges[..]));
+    let addresses: Vec<_> = (START - 1..START + 5).map(|place| l.address(place)).collect();
+    assert_eq!(addresses, [None, Some(65536), Some(65536), Some(65540), Some(65540), None]);
 }
 
 #[test]

@@ -58,7 +58,7 @@ impl Desk {
         let kernel = [(STATE_LINE, BIT, 0), (NOT, BIT, MODE as u64)];
         let flags = [(STATE_LINE, BIT, 0); DYNAMICS + TABLE.len()];
         for (kind, sort, first) in kernel.into_iter().chain(flags).chain([(CONST, WORD, 65536)]) {
-            push(&mut storage, [head(0, kind, sort, 0, 0), first, 0, 0]);
+            push(&mut storage, [head(0, kind, sort, 0, 0, 0), first, 0, 0, 0]);
         }
         assert_eq!(storage.state[LINES_USED], READY as u64);
         assert_eq!(lent(&mut storage).check_start(b""), Ok(()));
@@ -163,7 +163,7 @@ fn edges_then_dispatches_in_their_order() {
 #[test]
 fn another_zero_is_not_the_zero_bit() {
     let mut desk = Desk::new();
-    push(&mut desk.storage, [head(0, CONST, BIT, 0, 0), 0, 0, 0]);
+    push(&mut desk.storage, [head(0, CONST, BIT, 0, 0, 0), 0, 0, 0, 0]);
     assert_eq!(desk.joined(&given(&[regular(65536)], &[], READY)), (READY + 1, "97 constd 1 0\n98 ite 1 92 21 97\n".into()));
 }
 
@@ -258,7 +258,7 @@ fn flags_of_another_sort_or_none() {
 #[test]
 fn a_next_line_is_no_flow() {
     let flow_at_next = |desk: &mut Desk, g: &mut Given| {
-        push(&mut desk.storage, [head(0, NEXT, BIT, 0, 0), FLAG as u64, FLAG as u64, 0]);
+        push(&mut desk.storage, [head(0, NEXT, BIT, 0, 0, 0), FLAG as u64, FLAG as u64, 0, 0]);
         g.flow = READY;
     };
     assert_eq!(after(flow_at_next), Err(Refusal(15)));

@@ -8,7 +8,7 @@ use lanthanumbat::{Join, Lent, Refusal, Sequentials, DYNAMICS, EDGE, LINE, STATE
 use std::fmt::Write;
 
 // The words and bytes that the program has, and what each of them is before.
-const LIST: usize = 3200;
+const LIST: usize = 800 * LINE;
 const NAMES: usize = 2048;
 const SEQUENTIALS: usize = 64;
 const SCRATCH: usize = 68;
@@ -116,10 +116,10 @@ impl Desk {
     fn appended(&self, lines: usize, used: usize, flow: usize) -> String {
         let mut out = String::new();
         for line in self.list[lines * LINE..self.state[LINES_USED] as usize * LINE].chunks(LINE) {
-            let (kind, sort, area, init) = (line[0] & 255, line[0] >> 8 & 255, line[0] >> 16 & 255, line[0] >> 24 & 255);
-            let [_, a, b, c] = *line else { panic!() };
+            let (kind, sort, area, init) = (line[0] & 255, line[0] >> 8 & 255, line[0] >> 16 & 255, line[0] >> 24 & 15);
+            let [_, a, b, c, _] = *line else { panic!() };
             let imm = if kind == STATE_LINE { init } else { a };
-            writeln!(out, "{} {kind} {sort} {a} {b} {c} {imm} {area} {b} {c}", line[0] >> 32).unwrap();
+            writeln!(out, "{} {kind} {sort} {a} {b} {c} {imm} {area} {b} {c} {}", line[0] >> 32, shown_address(line)).unwrap();
             if kind == STATE_LINE {
                 writeln!(out, "{}", std::str::from_utf8(&self.names[b as usize..(b + c) as usize]).unwrap()).unwrap();
             }

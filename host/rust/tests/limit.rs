@@ -23,10 +23,13 @@ fn up_to_the_limit_and_past_it() {
     let no_line = instruction(JAL, 0, 0, 0, 8);
     assert_eq!(l.lower(two_lines, 0, NO_FLAG), Err(Refusal(8)));
     assert_eq!(l.lower_all(&[two_lines.call(0, NO_FLAG)]), (0, Err(Refusal(8))));
-    assert_eq!(l.lower(ecall, 0, FLAG), Ok(()));
+    assert_eq!(l.lower(ecall, u64::MAX, FLAG), Ok(()));
     assert_eq!(l.lines(), MOST_LINES);
-    let last = [head(FIRST + MOST_LINES as u64 - 1, 14, BIT, 0, 0), FLAG as u64, 1, 0];
+    let last = [head(FIRST + MOST_LINES as u64 - 1, 14, BIT, 0, 0, 1), FLAG as u64, 1, 0, u64::MAX];
     assert_eq!(&l.list[(MOST_LINES - 1) * LINE..MOST_LINES * LINE], &last);
+    let last_addw = 4 * (full as u64 - 1);
+    let around = [MOST_LINES - 2, MOST_LINES - 1, MOST_LINES].map(|place| l.address(place));
+    assert_eq!(around, [Some(last_addw), Some(u64::MAX), None]);
     assert_eq!(l.check_start(b""), Ok(()));
 
     let (list, state) = (l.list.to_vec(), *l.state);
@@ -37,7 +40,7 @@ fn up_to_the_limit_and_past_it() {
     assert_eq!(l.lines(), MOST_LINES);
 
     // One line more, well formed.
-    l.list[MOST_LINES * LINE..(MOST_LINES + 1) * LINE].copy_from_slice(&[head(l.state[NEXT_NID], CONST, BIT, 0, 0), 0, 0, 0]);
+    l.list[MOST_LINES * LINE..(MOST_LINES + 1) * LINE].copy_from_slice(&[head(l.state[NEXT_NID], CONST, BIT, 0, 0, 0), 0, 0, 0, 0]);
     l.state[LINES_USED] += 1;
     l.state[NEXT_NID] += 1;
     assert_eq!(l.check_start(b""), Err(Refusal(9)));
@@ -67,7 +70,7 @@ fn states_with_an_init_up_to_the_limit() {
     let mut s = start(MOST_LINES + 1, 8);
     for place in START..MOST_LINES {
         let nid = FIRST + START as u64 + 2 * (place - START) as u64;
-        s.list[place * LINE..(place + 1) * LINE].copy_from_slice(&[head(nid, STATE_LINE, WORD, 0, 1), 2, 0, 0]);
+        s.list[place * LINE..(place + 1) * LINE].copy_from_slice(&[head(nid, STATE_LINE, WORD, 0, 1, 0), 2, 0, 0, 0]);
     }
     s.state[LINES_USED] = MOST_LINES as u64;
     s.state[NEXT_NID] = FIRST + START as u64 + 2 * (MOST_LINES - START) as u64;
@@ -96,7 +99,7 @@ fn joins_up_to_the_limit_and_past_it() {
     let mut s = start(MOST_LINES + 100, 8);
     s.names = vec![0; 100];
     for place in START..MOST_LINES + 1 {
-        s.list[place * LINE..(place + 1) * LINE].copy_from_slice(&[head(FIRST + place as u64, CONST, BIT, 0, 0), 0, 0, 0]);
+        s.list[place * LINE..(place + 1) * LINE].copy_from_slice(&[head(FIRST + place as u64, CONST, BIT, 0, 0, 0), 0, 0, 0, 0]);
     }
     let mut l = lent(&mut s);
     let mut sequentials = Sequentials { places: &mut [0; 9], used: 0 };
@@ -113,6 +116,7 @@ fn joins_up_to_the_limit_and_past_it() {
     assert_eq!(l.join(&mut sequentials, syscall), Ok(MOST_LINES - 1));
     assert_eq!((l.lines(), l.state[NEXT_NID]), (MOST_LINES, FIRST + MOST_LINES as u64 + 1));
     assert_eq!((sequentials.used, sequentials.places[0]), (1, MOST_LINES as u64 - 3));
+    assert_eq!(l.address(MOST_LINES - 1), None);
     assert_eq!(l.check_start(b""), Ok(()));
     assert!(text(&l, MOST_LINES - 5).starts_with("1048591 state 1 kernel-mode-pc-flag-0\n1048592 init 1 1048591 20\n"));
     assert!(text(&l, MOST_LINES - 5).ends_with("\n1048596 ite 1 1048595 21 58\n"));

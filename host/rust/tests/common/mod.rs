@@ -1,6 +1,6 @@
 // What a host lends, with the listing program's start in it.
 #![allow(dead_code)]
-use lanthanumbat::{head, Instruction, Lent, DISPATCH, EDGE, LINE, STATE};
+use lanthanumbat::{head, Instruction, Lent, Refusal, CALL, DISPATCH, EDGE, LINE, STATE};
 use std::{fs, path::Path};
 
 pub const FLAG: usize = 38;
@@ -66,7 +66,7 @@ impl Storage {
         let constants = [(CONST, BIT, 0), (CONST, BIT, 1), (CONST, WORD, 0), (CONST, WORD, 1)];
         let states = [WORD; 31].into_iter().chain([MEMORY, MEMORY, WORD, BIT]).map(|sort| (STATE_LINE, sort, 0));
         for (place, (kind, sort, imm)) in constants.into_iter().chain(states).enumerate() {
-            let line = [head(FIRST + place as u64, kind, sort, 0, 0), imm, 0, 0];
+            let line = [head(FIRST + place as u64, kind, sort, 0, 0, 0), imm, 0, 0, 0];
             self.list[place * LINE..(place + 1) * LINE].copy_from_slice(&line);
         }
         let counts = [START as u64, FIRST + START as u64, 0, 0, 0, 0];
@@ -99,17 +99,36 @@ pub fn instruction(kind: u64, rd: u64, rs1: u64, rs2: u64, imm: i64) -> Instruct
     Instruction { kind, rd, rs1, rs2, imm }
 }
 
+// Lowers the instruction of a call's words.
+pub fn lower(l: &mut Lent, [address, kind, rd, rs1, rs2, imm, flag]: [u64; CALL]) -> Result<(), Refusal> {
+    l.lower(instruction(kind, rd, rs1, rs2, imm as i64), address, flag as usize)
+}
+
+// The mark of an address in a line's words, and the word that is the address where the mark is not 0: read off the words, not by the library.
+pub fn mark_and_address(line: &[u64]) -> [u64; 2] {
+    [line[0] >> 28 & 15, line[4]]
+}
+
 // What a crate of cases has stored.
 pub fn stored(cases: &str, name: &str) -> String {
     fs::read_to_string(Path::new(env!("CARGO_MANIFEST_DIR")).join("../../crates").join(cases).join(name)).unwrap()
 }
 
-// Puts the line of a record's eleven numbers there, its place first.
+// Puts the line of a record's thirteen numbers there, its place first. A line without a mark has no address, and its last word is 0.
 pub fn put(list: &mut [u64], numbers: &[u64]) {
-    let [place, nid, kind, sort, op1, op2, op3, imm, area, at, len] = *numbers else { panic!() };
+    let [place, nid, kind, sort, op1, op2, op3, imm, area, at, len, mark, address] = *numbers else { panic!() };
     let init = if kind == STATE_LINE { imm } else { 0 };
     let first = if kind == CONST { imm } else { op1 };
     let others = if [STATE_LINE, INPUT, BAD].contains(&kind) { [at, len] } else { [op2, op3] };
+    let address = if mark == 0 { 0 } else { address };
     let from = place as usize * LINE;
-    list[from..from + LINE].copy_from_slice(&[head(nid, kind, sort, area, init), first, others[0], others[1]]);
+    list[from..from + LINE].copy_from_slice(&[head(nid, kind, sort, area, init, mark), first, others[0], others[1], address]);
+}
+
+// The last two numbers of a record that is shown: 1 and the address, or 0 and 0 where there is none.
+pub fn shown_address(line: &[u64]) -> String {
+    match mark_and_address(line) {
+        [0, _] => "0 0".into(),
+        [_, address] => format!("1 {address}"),
+    }
 }

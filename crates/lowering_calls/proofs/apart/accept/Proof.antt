@@ -19,7 +19,7 @@ returns c =
     let lines = edges .before .before .before .before in
     let named = lines .before .before in
     let start = named .before .before .before .before .before .before in
-    let run = rw (named .name-for .ensures) at (lines .lower-lines .ensures .is) in
+    let run = rw (named .name-for .ensures) at (lines .lower-lines .ensures) in
     rw (← run, ← start .pre .is, ← counts .counts-after .ensures, ← edges .go-to-instructions .ensures, ← jalr .put-jalr .ensures .0, ← jalr .put-jalr .ensures .1 .0, ← jalr .put-jalr .ensures .1 .1)
 
 pub accept-spec : {M : Type 1} → statement M
