@@ -1,9 +1,9 @@
 -- Any list of calls: each line has the address of the call whose output it stands in, and the start's lines what they had. Assumes nothing.
 use Prim.Native.Nat.{ℕ, _+_, _-_, _≤_}
 use mathlib.Core.Path.{_≡_, refl, sym, _∙_, ap}
-use mathlib.Core.List.{List, [], _∷_, _++_, map, append-assoc, append-nil}
+use mathlib.Core.List.{List, [], _∷_, _++_, map, map-append, append-assoc, append-nil}
 use native.Mathlib.Omega.{arith}
-use lib.ListN.{length, replicate, length-append}
+use lib.ListN.{length, replicate, length-append, length-map}
 use Rattle.btor2.specs.Op.{Op, identifiers}
 use Rattle.btor2_list.specs.declared.MaybeAddress.{MaybeAddress}
 use Rattle.btor2_list.specs.declared.MaybeAddress.the-variants.{Address, NoAddress}
@@ -14,6 +14,7 @@ use Rattle.btor2_list.proofs.View.{view-length}
 use Rattle.lowering_laws.specs.Lines.{numbered}
 use Rattle.lowering_laws.proofs.OneCall as O
 use Rattle.roles_kept.proofs.Call as K
+use Rattle.roles_kept.proofs.Views.{numbered-operators}
 use Rattle.join_laws.proofs.Accepted.{nodes-after, stored-after}
 use Rattle.demand.specs.Calls.{Held, Request, Join, Call, lower, join, lentFor, stateFor, answerTo, lentJoin, heldJoin, joinAnswerTo, step, run}
 use Rattle.demand.specs.Laws.{addressesIn, addressOf, addressesBy, LinesRemember}
@@ -24,19 +25,13 @@ use Rattle.demand.proofs.Demand3.{stored}
 
 -- ---- lines that are appended with one address, or without one
 
-map-append : (l m : List Node) → map (λ line. line .address) (l ++ m) ≡ map (λ line. line .address) l ++ map (λ line. line .address) m
-map-append [] m = refl
-map-append (x ∷ l) m = ap (λ r. x .address ∷ r) (map-append l m)
-
 numbered-addresses : (w : MaybeAddress) (nid : ℕ) (os : List (Op ℕ)) → map (λ line. line .address) (numbered w nid os) ≡ replicate (length os) w
 unfolding numbered
 numbered-addresses w nid [] = refl
 numbered-addresses w nid (o ∷ os) = ap (λ r. w ∷ r) (numbered-addresses w (nid + identifiers o) os)
 
 numbered-length : (w : MaybeAddress) (nid : ℕ) (os : List (Op ℕ)) → length (numbered w nid os) ≡ length os
-unfolding numbered
-numbered-length w nid [] = refl
-numbered-length w nid (o ∷ os) = ap ℕ.suc (numbered-length w (nid + identifiers o) os)
+numbered-length w nid os = sym (length-map (numbered w nid os) (λ (line : Node). line .op)) ∙ ap length (numbered-operators w nid os)
 
 -- what is held has room for its lines, and more lines than what was held before, all with w
 record Grown (w : MaybeAddress) (h after : Held) : Type 0 where
@@ -52,7 +47,7 @@ by-lines w h after nid os lent after-it is =
     sym (view-length (after .list) (after .state .tally .lines)) ∙ ap length e ∙ length-append (view (h .list) (h .state .tally .lines)) (numbered w nid os) ∙ rw (view-length (h .list) (h .state .tally .lines), numbered-length w nid os) in
     let count : length os ≡ after .state .tally .lines - h .state .tally .lines = omega arith in
     ap (map (λ line. line .address)) e
-    ∙ map-append (view (h .list) (h .state .tally .lines)) (numbered w nid os)
+    ∙ map-append (λ (line : Node). line .address) (view (h .list) (h .state .tally .lines)) (numbered w nid os)
     ∙ ap (λ (r : List MaybeAddress). map (λ line. line .address) (view (h .list) (h .state .tally .lines)) ++ r) (numbered-addresses w nid os ∙ ap (λ (k : ℕ). replicate k w) count)
 
 -- a refused call
