@@ -1409,6 +1409,18 @@ def lowered_lines(c):
     other_lowered_lines(c, lowered, Given({1: 64, 2: 6, 3: 9}, held))
 
 
+# 0, 1, 2 and their negatives; the least and the greatest of 64 bits and of 32 bits; and words whose high halves are not the sign of the low ones.
+DIVIDED = [0, 1, -1, 2, -2, -(2**63), 2**63 - 1, -(2**31), 2**31 - 1, 2**31, 2**32 - 1, 2**32, 0x0123456780000000, 0x01234567FFFFFFFF]
+
+
+def divisions(c):
+    """Div and Divw of every pair of these: the manual's quotient, or what docs/DIFFERENCES.md says of the pair."""
+    lowered = Lowered(c.program, ["65536 Div 3 1 2 0", "65540 Divw 4 1 2 0"])
+    lowered.put_into(c)
+    for a, b in itertools.product(DIVIDED, repeat=2):
+        ask_lowered(c, lowered, Given({1: a, 2: b}, {}), {"Div", "Divw"})
+
+
 def ask_lowered(c, lowered, given, kinds):
     with c.further():
         given.put_into(c, lowered)
@@ -1442,7 +1454,7 @@ GROUPS = [
     zeros_after_the_records, each_kind, operators, not_on_words, sdiv_by_signs, bits, branches, constants, no_short_cuts, reductions, first_records,
     cells, inits, writes, memory_choices, words_and_bits, deep_lists, shared_nodes, limit_cases, endless_towers, orders, sorts_kept, sorts_broken,
     rules_without_a_visit, list_sizes, stored_before, unknown_kinds_and_sorts, broken_operands, asked_nodes, unread, drawn_lists, lowered_lines,
-    addresses,
+    divisions, addresses,
 ]  # fmt: skip
 
 

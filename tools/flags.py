@@ -4,8 +4,8 @@
 The listing lowers every instruction under one flag. Here PROGRAM (default: target/bin/lowering_cases of the repository, which
 `rt check lowering_cases` makes) lowers lists of calls, each under a flag of its own: the state `flag`, the bits 0 and 1, or a Bit line that an
 earlier call appended, such as a branch's condition. Flows start elsewhere than at their nodes. Among the calls are such as must be refused:
-a record of 1 to 6 (also Mul, Mulw, Div and Divw, which are in no list otherwise), a flag that is absent or no Bit (7), and in long lists those
-for which there is no room (8).
+a record of 1 to 6 (also Mul and Mulw, which are in no list otherwise), a flag that is absent or no Bit (7), and in long lists those for which
+there is no room (8).
 
 The lines' records are read, every line is evaluated by BTOR2's operators, on random states, and it must hold that
 
@@ -13,10 +13,10 @@ The lines' records are read, every line is evaluated by BTOR2's operators, on ra
 - no line is ill-sorted;
 - where at most one accepted call that needs a flag has it at 1, and its load or store stays in one aligned word of 8 bytes: each flow of x1 to
   x31 has the manual's value where that call writes it, and else its starting value; the memory flow is the memory node with the bytes that
-  it stores, and else what it was at the start.
+  it stores, and else what it was at the start. A Div or Divw that isn't ordinary (document 02, R-4) has the value of docs/DIFFERENCES.md.
 
 Prints counts, then 'no difference' or the differences; the exit status is 0 only without any. --self-test alters lines, addresses, flags and
-flows, one at a time, in a list of all 46 kinds, each under a flag of its own: each must be found. btor2_values.py evaluates, riscv_manual.py is
+flows, one at a time, in a list of all 48 kinds, each under a flag of its own: each must be found. btor2_values.py evaluates, riscv_manual.py is
 the manual, and refusal.py document 01's numbers; nothing is shared with the project's definitions and code but the layout of the records.
 """
 import argparse
@@ -30,12 +30,12 @@ from btor2_values import BIT, COUNTER, COUNTER_MAX, FLAG, MEMORY, START_SORTS, W
 from lowering_cases import FIRST, HOLDS, OPERATORS, START
 from refusal import BRANCHES, KINDS, LOADS, NO_RD, REGISTERS, STORES, UPPER, appended, refusal
 from riscv_manual import MANUAL, SIZE, accessed, loaded
-from values import BOUNDARIES, alterations, byte_of, cells
+from values import BOUNDARIES, DIVISIONS, alterations, byte_of, cells, divided
 
 HERE = pathlib.Path(__file__).resolve().parent
 SHOWN = 10  # differences
 TOP = 2**64 - 1  # a place that no list reaches
-EXCLUDED = {"Mul", "Mulw", "Div", "Divw"}
+EXCLUDED = {"Mul", "Mulw"}
 INCLUDED = [kind for kind in KINDS if kind not in EXCLUDED]
 BITS = [nid - FIRST for nid, sort in START_SORTS.items() if sort == BIT]  # the places of the start's
 OPERANDS = {"not": 1, "bad": 1, "constd": 0, "uext": 1, "write": 3, "ite": 3}  # the others have two
@@ -159,6 +159,11 @@ def state(rng, flag):
     return {20: 0, 21: 1, 22: 0, 23: 1, FLAG: flag} | memories | {23 + r: value for r, value in registers.items()}
 
 
+# Dividends and divisors, some by their low 32 bits alone.
+LEAST_AND_NEGATIVE = [WORD - 2**63, WORD - 2**31, 2**31, 0x0123456780000000, WORD - 1, 2**32 - 1, 7]
+ZERO_AND_MINUS_ONE = [0, 2**32, WORD - 1, 2**32 - 1, 0x01234567FFFFFFFF]
+
+
 def moved(values, r, value):
     """The state with another value in a register and in those equal to it, so that the same comparisons hold."""
     return values | {23 + n: value for n in range(1, 32) if values[23 + n] == values[23 + r]} if r else values
@@ -166,7 +171,7 @@ def moved(values, r, value):
 
 def made_true(rng, run, values, call):
     """The state with the call's flag made true, where that is a comparison of two registers or the state `flag`, and with operands that are
-    boundaries, or an address at which the access stays in one word."""
+    boundaries, or an address at which the access stays in one word, or a pair of which a division may not be ordinary."""
     if FIRST + call.flag == FLAG:
         values = values | {FLAG: 1}
     node = next((node for node in run.nodes() if node.nid == FIRST + call.flag), None)
@@ -178,6 +183,9 @@ def made_true(rng, run, values, call):
     if call.kind in LOADS | STORES:
         start = rng.randrange(0, WORD, 8) + rng.randrange(9 - SIZE[call.kind[1]])
         values = moved(values, call.rs1, (start - call.imm) % WORD)
+    if call.kind in DIVISIONS and rng.random() < 0.5:
+        for r, choices in ((call.rs1, LEAST_AND_NEGATIVE), (call.rs2, ZERO_AND_MINUS_ONE)):
+            values = moved(values, r, rng.choice(choices))
     return values
 
 
@@ -201,12 +209,13 @@ def operands(call, values):
     return [values[23 + r] if r else 0 for r in (call.rs1, call.rs2)]
 
 
-def result(call, values):
-    """The manual's value of rd."""
+def result(call, values, counts):
+    """The manual's value of rd, or what docs/DIFFERENCES.md says of a division."""
     a, b = operands(call, values)
     if call.kind in LOADS:
         return loaded(call.kind, accessed(call.kind, a, call.imm), byte_of(values[MEMORY]))
-    return MANUAL[call.kind](call.pc, a, b, call.imm) % WORD
+    manual = MANUAL[call.kind](call.pc, a, b, call.imm) % WORD
+    return divided(call.kind, a, b, manual, counts) if call.kind in DIVISIONS else manual
 
 
 def stored(call, values):
@@ -240,7 +249,7 @@ def differs(run, nodes, ill, values, counts):
     counts["a true flag that isn't needed"] += any(not call.number and not call.needs_flag() and values.get(FIRST + call.flag) == 1 for call in run.calls)
     under = f", the true one being {ones[0]}" if ones else ", no flag being true"
     for r in range(1, 32):
-        wanted = result(ones[0], start) if written == r else start[FIRST + run.first[r - 1]]
+        wanted = result(ones[0], start, counts) if written == r else start[FIRST + run.first[r - 1]]
         got = values[FIRST + run.flows[r - 1]]
         if got != wanted:
             return f"the flow of x{r} is {got}, not {wanted}{under}"

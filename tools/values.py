@@ -15,10 +15,11 @@ the flow before it. An empty input line stands after each instruction; its refus
 
 Exceptions, those of docs/DIFFERENCES.md, each tested to be exactly this one and counted:
 - Mul, Mulw: three lines are ill-sorted and have no value; the product is right. No line of another kind is ill-sorted;
-- Div, Divw: a negative dividend over zero gives 1; Divw of -2^31 by -1 gives 2^31;
+- Div, Divw: a negative dividend over zero gives 1; Divw of -2^31 by -1 gives 2^31. No other pair of registers is an exception, and no ordinary
+  one (document 02, R-4);
 - accesses that leave an aligned word of 8 bytes are not compared (Ld and Sd: that are not aligned).
 
-Then document 01's bench cases about values. Prints counts, then 'no difference' or the differences; the exit status is 0 only without any.
+Then the bench cases about values of document 01 and of document 02, R-4. Prints counts, then 'no difference' or the differences; the exit status is 0 only without any.
 --self-test alters the lines, one at a time, wherever what is compared depends on them: each must be found. btor2_values.py evaluates, and
 riscv_manual.py is the manual; nothing is shared with the project's definitions and code. differential/target/oracle (differential/README.md)
 can take PROGRAM's place.
@@ -105,6 +106,7 @@ def printed(program, lines):
 BOUNDARIES = [
     0, 1, 2, 3, 4, 5, 6, 7, 8, 31, 32, 63, 64, 2**31 - 1, 2**31, 2**32 - 1, 2**32, 2**62, 2**63 - 1, 2**63, WORD - 2**31, WORD - 2**31 - 1,
     WORD - 8, WORD - 7, WORD - 4, WORD - 2, WORD - 1, 0x0123456789ABCDEF, 0xFEDCBA9876543210, 0x5555555555555555, 0xAAAAAAAAAAAAAAAA,
+    0x0123456780000000, 0x01234567FFFFFFFF, 0xFEDCBA9800000000,
 ]  # fmt: skip
 
 
@@ -138,14 +140,33 @@ def starts():
 #
 
 
+DIVISIONS = {"Div": 64, "Divw": 32}  # the bits of the operands
+
+
+def ordinary(kind, a, b):
+    """Document 02, R-4: the divisor isn't zero and, for Divw, the pair isn't -2^31 by -1, for Divw both on the low 32 bits."""
+    if kind == "Div":
+        return b != 0
+    return b % 2**32 != 0 and (a % 2**32, b % 2**32) != (2**31, 2**32 - 1)
+
+
 def exception(kind, a, b):
     """The value that the lines give where docs/DIFFERENCES.md says that it isn't the manual's, and the entry's name."""
-    bits = {"Div": 64, "Divw": 32}.get(kind)
+    bits = DIVISIONS.get(kind)
     if bits and signed(b, bits) == 0 and signed(a, bits) < 0:
         return 1, f"{kind} of a negative number by 0"
     if kind == "Divw" and (signed(a, 32), signed(b, 32)) == (-(2**31), -1):
         return 2**31, "Divw of -2^31 by -1"
     return None, None
+
+
+def divided(kind, a, b, manual, counts):
+    """What the lines of a division must give, by the manual's value; its case is counted. An exception isn't ordinary, nor has it that value."""
+    other, name = exception(kind, a, b)
+    usual = ordinary(kind, a, b)
+    assert name is None or (not usual and other != manual)
+    counts[name or (f"{kind}, ordinary" if usual else f"{kind} of another number by 0")] += 1
+    return other if name else manual
 
 
 def byte_of(array):
@@ -183,10 +204,8 @@ def compare_rd(instruction, values, a, b, counts):
         wanted = loaded(kind, accessed(kind, a, instruction.imm), byte_of(values[MEMORY]))
     else:
         wanted = MANUAL[kind](instruction.pc, a, b, instruction.imm) % WORD
-        other, name = exception(kind, a, b)
-        if name and other != wanted:
-            counts[name] += 1
-            wanted = other
+        if kind in DIVISIONS:
+            wanted = divided(kind, a, b, wanted, counts)
     return None if got == wanted else f"the flow of x{instruction.rd} is {got}, not {wanted}"
 
 
@@ -282,13 +301,16 @@ def listings(lines):
 
 
 def bench_cases():
-    """Document 01's cases about values: an input line, registers, cells, and the value of the line with this place from the end."""
+    """Document 01's cases about values, and document 02's (R-4): an input line, registers, cells, and the value of the line with this place from the end."""
     yield "0 Lh 1 2 0 6", {2: 64}, {64: 2**63}, -1, -32768
     yield "0 Lh 1 2 0 7", {2: 64}, {64: WORD - 1, 72: WORD - 1}, -1, 0  # across 8 bytes
     yield "0 Div 1 2 3 0", {2: -7, 3: 0}, {}, -1, 1
-    yield "0 Divw 1 2 3 0", {2: -7, 3: 0}, {}, -1, 1
+    yield "0 Div 1 2 3 0", {2: -1, 3: 0}, {}, -1, 1
+    yield "0 Divw 1 2 3 0", {2: -1, 3: 0}, {}, -1, 1
+    yield "0 Divw 1 2 3 0", {2: 2**32 - 1, 3: 2**32}, {}, -1, 1  # the low words are those of the line before
     yield "0 Divw 1 2 3 0", {2: -(2**31), 3: -1}, {}, -1, 2**31
-    yield "0 Div 1 2 3 0", {2: -(2**63), 3: -1}, {}, -1, 2**63
+    yield "0 Divw 1 2 3 0", {2: 2**31, 3: 2**32 - 1}, {}, -1, 2**31  # the low words are those of the line before
+    yield "0 Div 1 2 3 0", {2: -(2**63), 3: -1}, {}, -1, -(2**63)
     yield "0 Sub 1 2 3 0", {2: 1, 3: 2}, {}, -2, 1  # flagged by the addition's test
     yield "0 Srliw 1 2 0 31", {2: -1}, {}, -1, 1
     yield "65536 Auipc 1 0 0 1048575", {}, {}, -2, 61440

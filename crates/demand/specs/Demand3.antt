@@ -1,7 +1,7 @@
--- Demand 3, whole: from a start that the start's check accepts, after any list of calls of which none is accepted for Mul, Mulw, Div or
--- Divw, every line meets the sort rule; and where at most one accepted call that needs a flag has it true, each register flow and the memory
--- flow have the manual's value where that call writes them, and their starting value elsewhere. The quoted words are document 01's ("Start,
--- storage, evaluation"), and each hypothesis has a name.
+-- Demand 3, whole: from a start that the start's check accepts, after any list of calls of which none is accepted for Mul or Mulw, every line
+-- meets the sort rule; and where at most one accepted call that needs a flag has it true, and that one is admitted, each register flow and the
+-- memory flow have the manual's value where that call writes them, and their starting value elsewhere. The quoted words are document 01's
+-- ("Start, storage, evaluation") but where another document is named, and each hypothesis has a name.
 use Prim.Native.Nat.{ℕ, _^_, _≤_, _<_}
 use mathlib.Core.Path.{_≡_}
 use mathlib.Core.Bool.{Bool, cond, _&&_, not}
@@ -19,7 +19,7 @@ use Rattle.riscv.specs.Format.{lastRegister}
 use Rattle.riscv.specs.Zeros.{zerosOf}
 use Rattle.state.specs.Room.{roomOf}
 use Rattle.start.specs.Start.{startRefusal}
-use Rattle.meaning.specs.Access.{Admitted, excluded}
+use Rattle.meaning.specs.Condition.{Admitted, excluded}
 use Rattle.demand.specs.Calls.{Held, linesIn, Request, Call, lower, join, accepted, step, run}
 
 -- ---- what is asked of the start and of the calls
@@ -44,7 +44,7 @@ Records (join c ∷ cs) = Records cs
 abbrev pub kindOf : Request → Kind
 kindOf c = kindAt (c .call .instruction .kind)
 
--- "all kinds but Mul, Mulw, Div and Divw": none of them is accepted
+-- "all kinds but Mul, Mulw, Div and Divw", of which document 02, R-4, admits Div and Divw: neither Mul nor Mulw is accepted
 abbrev pub NoneExcluded : Held → List Call → Type 0
 NoneExcluded h [] = Unit {0}
 NoneExcluded h (lower c ∷ cs) = (T (accepted h c) → T (not (excluded (kindOf c)))) × NoneExcluded (step h (lower c)) cs
@@ -99,7 +99,7 @@ unfoldable pub effectOf : (ℕ → ℕ) → (ℕ → ℕ) → Request → Effect
 effectOf registers memory c =
     let i = c .call .instruction in manual (i .imm) (c .call .address) (registers (i .rs1)) (registers (i .rs2)) (bytesOf memory) (kindOf c)
 
--- what is asked of a call whose flag is true: its load or store stays in one aligned 8-byte word
+-- what is asked of a call whose flag is true: its load or store stays in one aligned 8-byte word, and its Div or Divw is ordinary
 abbrev pub AdmittedCall : (ℕ → ℕ) → Request → Type 0
 AdmittedCall registers c = let i = c .call .instruction in Admitted (kindOf c) (registers (i .rs1)) (registers (i .rs2)) (i .imm)
 
@@ -134,8 +134,9 @@ module _ (env : Env) (start : Held) (calls : List Call) where
   abbrev pub AtMostOne : Type 0
   AtMostOne = length trueOnes ≤ 1
 
-  abbrev pub StaysInOneWord : Type 0
-  StaysInOneWord = Each (AdmittedCall (registerNodeValue env start)) trueOnes
+  -- document 02, R-4: "the third demand then admits them where the one with the true flag is ordinary"
+  abbrev pub TrueOnesAdmitted : Type 0
+  TrueOnesAdmitted = Each (AdmittedCall (registerNodeValue env start)) trueOnes
 
   -- every register flow, and the memory flow at every address
   pub record FlowValues : Type 0 where
@@ -146,7 +147,7 @@ pub record Means (start : Held) (calls : List Call) : Type 0 where
   -- every line of the final list meets the sort rule: "An operand is an earlier line other than Next and Bad"
   pub sorted : T (meetsSortRule (linesIn (run start calls)))
   -- for any states and inputs
-  pub flows : (env : Env) → AtMostOne env start calls → StaysInOneWord env start calls → ZeroRegister env start → FlowValues env start calls
+  pub flows : (env : Env) → AtMostOne env start calls → TrueOnesAdmitted env start calls → ZeroRegister env start → FlowValues env start calls
 
 abbrev pub Demand3 : Type 0
 Demand3 = (start : Held) (calls : List Call) → AcceptedStart start → Records calls → NoneExcluded start calls → Means start calls

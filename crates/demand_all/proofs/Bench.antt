@@ -11,7 +11,7 @@ use Rattle.demand_all.specs.Bench.{BenchMeetsManual}
 
 pub bench-meets-manual : BenchMeetsManual
 unfolding registerFlowValue operators
-bench-meets-manual start calls vs ms accepted records none-excluded at-most-one one-word zero r x k low high e =
+bench-meets-manual start calls vs ms accepted records none-excluded at-most-one admitted zero r x k low high e =
     let h = run start calls in
     gives-the-value mostVisits (h .list) (h .state .tally .lines) vs ms _ x k e .same
-    ∙ demand-3 start calls accepted records none-excluded .flows (givenEnv vs ms) at-most-one one-word zero .registers r low high
+    ∙ demand-3 start calls accepted records none-excluded .flows (givenEnv vs ms) at-most-one admitted zero .registers r low high

@@ -10,7 +10,7 @@ use Rattle.evaluation.specs.declared.Evaluated.{Evaluated}
 use Rattle.evaluation.specs.declared.Evaluated.the-variants.{Value}
 use Rattle.evaluation.specs.Evaluation.{evaluated}
 use Rattle.demand.specs.Calls.{Held, Call, run}
-use Rattle.demand.specs.Demand3.{AcceptedStart, Records, NoneExcluded, AtMostOne, StaysInOneWord, ZeroRegister, registersBy, trueOnes}
+use Rattle.demand.specs.Demand3.{AcceptedStart, Records, NoneExcluded, AtMostOne, TrueOnesAdmitted, ZeroRegister, registersBy, trueOnes}
 
 -- what the bench answers for the flow of register r, under records of values vs and of memory ms
 abbrev pub flowEvaluated : Held → List ℕ → List ℕ → ℕ → Evaluated
@@ -19,6 +19,6 @@ flowEvaluated h vs ms r = evaluated (h .list) (h .state .tally .lines) vs ms (re
 abbrev pub BenchMeetsManual : Type 0
 BenchMeetsManual =
     (start : Held) (calls : List Call) (vs ms : List ℕ) → AcceptedStart start → Records calls → NoneExcluded start calls
-    → AtMostOne (givenEnv vs ms) start calls → StaysInOneWord (givenEnv vs ms) start calls → ZeroRegister (givenEnv vs ms) start
+    → AtMostOne (givenEnv vs ms) start calls → TrueOnesAdmitted (givenEnv vs ms) start calls → ZeroRegister (givenEnv vs ms) start
     → (r x k : ℕ) → 1 ≤ r → r ≤ lastRegister → flowEvaluated (run start calls) vs ms r ≡ Value x k
     → x ≡ registersBy (givenEnv vs ms) start (trueOnes (givenEnv vs ms) start calls) r

@@ -3,7 +3,6 @@
 use Prim.Native.Nat.{ℕ, _^_, _<_}
 use mathlib.Core.Path.{_≡_, refl}
 use mathlib.Core.Bool.{Bool, true, false, not, _||_}
-use mathlib.Core.List.{[], _∷_}
 use lib.Dec.{T}
 use borrow.Author.Tests.{lt-ltb}
 use Rattle.btor2.specs.declared.Name.{Name}
@@ -11,23 +10,24 @@ use Rattle.btor2.specs.SortRule.{allRight}
 use Rattle.riscv.specs.declared.Zeros.{Zeros}
 use Rattle.riscv.specs.Class.{needsFlag}
 use Rattle.riscv.proofs.EachKind.{zeros, everyCase, by-case}
-use Rattle.riscv.specs.Kind.{Kind, Lui, Auipc, Lb, Lh, Lw, Ld, Lbu, Lhu, Sb, Sh, Sw, Sd, Addi, Sltiu, Xori, Ori, Andi, Slli, Srli, Srai, Addiw, Slliw, Srliw, Sraiw, Add, Sub, Sll, Sltu, Srl, Sra, Or, And, Mul, Div, Divu, Remu, Addw, Divw, Subw, Sllw, Mulw, Beq, Bne, Blt, Bge, Bltu, Bgeu, Jal, Jalr, Ecall, oneOf}
+use Rattle.riscv.specs.Kind.{Kind, Lui, Auipc, Lb, Lh, Lw, Ld, Lbu, Lhu, Sb, Sh, Sw, Sd, Addi, Sltiu, Xori, Ori, Andi, Slli, Srli, Srai, Addiw, Slliw, Srliw, Sraiw, Add, Sub, Sll, Sltu, Srl, Sra, Or, And, Mul, Div, Divu, Remu, Addw, Divw, Subw, Sllw, Mulw, Beq, Bne, Blt, Bge, Bltu, Bgeu, Jal, Jalr, Ecall}
 use Rattle.models.specs.Places.{Operands, Flows}
 use Rattle.lowering_laws.proofs.EachKind.{reading}
 use Rattle.lowering_laws.proofs.Template.{Role, template}
+use Rattle.meaning.specs.Condition.{excluded}
 use Rattle.meaning.proofs.Roles.{ruled, marked}
 
 module _ (n : ℕ) (st rt : Role → Bool) (imm : ℕ) (h : imm < 2 ^ 64) (name : Name) where
   kept : Kind → Zeros → Bool
-  kept k z = oneOf k (Mul ∷ Mulw ∷ []) || ruled n st rt (template imm name k z)
+  kept k z = excluded k || ruled n st rt (template imm name k z)
 
   all-kept : T (everyCase kept)
   unfolding kept template ruled allRight
   all-kept = rw (lt-ltb imm (2 ^ 64) h) tt
 
-  pub kind-sorts : (k : Kind) (z : Zeros) → T (not (oneOf k (Mul ∷ Mulw ∷ []))) → T (ruled n st rt (template imm name k z))
+  pub kind-sorts : (k : Kind) (z : Zeros) → T (not (excluded k)) → T (ruled n st rt (template imm name k z))
   unfolding kept
-  kind-sorts k z v = other (oneOf k (Mul ∷ Mulw ∷ [])) (ruled n st rt (template imm name k z)) v (by-case kept all-kept k z)
+  kind-sorts k z v = other (excluded k) (ruled n st rt (template imm name k z)) v (by-case kept all-kept k z)
     where
       other : (a b : Bool) → T (not a) → T (a || b) → T b
       other true b h g = absurd h

@@ -1,11 +1,12 @@
--- Each kind but Mul, Mulw, Div and Divw: the line that its model gives for rd or memory has the manual's value. Assumes nothing.
+-- Each kind but Mul and Mulw: the line that its model gives for rd or memory has the manual's value, where a call with a true flag is
+-- admitted. Assumes nothing.
 use Prim.Native.Nat.{ℕ, _+_, _-_, _*_, _%_, _^_, _≤_, _<_}
 use native.Mathlib.Nat.{add-comm}
 use native.Mathlib.Omega.{arith}
 use mathlib.Core.Path.{_≡_, refl, _∙_, ap}
 use mathlib.Core.Bool.{Bool, true, false, not}
 use lib.Dec.{T, eqb}
-use borrow.Author.Tests.{ltb-false, eqb-false}
+use borrow.Author.Tests.{ltb-false}
 use Rattle.bitvec.proofs.Truth.{neither}
 use Rattle.bitvec.specs.Smtlib.{bvand}
 use Rattle.bitvec.specs.Smtlib as Smt
@@ -26,9 +27,11 @@ use Rattle.riscv.specs.Manual.{manual, loadAt, storeAt}
 use Rattle.riscv.specs.Memory.{bytesOf, cellsWith}
 use Rattle.riscv.specs.Constant.{constantOf}
 use Rattle.lowering_laws.proofs.Template.{Role, flag, rs1, rs2, memoryNode, registerFlow, memoryFlow, template}
-use Rattle.meaning.specs.Access.{InOneWord, excluded}
+use Rattle.meaning.specs.Access.{InOneWord}
+use Rattle.meaning.specs.Condition.{Admitted, excluded}
 use Rattle.meaning.proofs.Agrees.{Flowed, outcome, Agrees}
 use Rattle.meaning.proofs.Words as W
+use Rattle.meaning.proofs.Division as Division
 
 module _ (env : Env) (n : ℕ) (ofRole : Role → Value) (imm pc : ℕ) (name : Name) where
   abbrev x : ℕ
@@ -51,7 +54,7 @@ module _ (env : Env) (n : ℕ) (ofRole : Role → Value) (imm pc : ℕ) (name : 
     pub cells-fit : (a : ℕ) → ofRole memoryNode .mem a < 2 ^ 64
     pub zero-imm : eqb imm 0 ≡ z .imm
     pub zero-rs1 : T (z .rs1) → ofRole rs1 .num ≡ 0
-    pub within : ofRole flag .num ≡ 1 → InOneWord k (ofRole rs1 .num) imm
+    pub admitted : ofRole flag .num ≡ 1 → Admitted k (ofRole rs1 .num) (ofRole rs2 .num) imm
 
   -- a flow's line with a word, and with a memory
   word : {v w : ℕ} → (ofRole flag .num ≡ 1 → v ≡ w)
@@ -63,6 +66,9 @@ module _ (env : Env) (n : ℕ) (ofRole : Role → Value) (imm pc : ℕ) (name : 
   memory {f} h = record { result = array f; is = refl; right = h }
 
   module _ {k : Kind} {z : Zeros} (h : Known k z) where
+    within : ofRole flag .num ≡ 1 → InOneWord k x imm
+    within on = h .admitted on .oneWord
+
     abbrev address : ℕ
     address = W.addressOf (z .imm) x imm
 
@@ -92,34 +98,31 @@ module _ (env : Env) (n : ℕ) (ofRole : Role → Value) (imm pc : ℕ) (name : 
     stored-whole : effective % 8 + 8 ≤ 8 → (a : ℕ) → a < 2 ^ 64 → store cells address y a ≡ cellsWith cells (storeAt (bytesOf cells) effective 8 y) a
     stored-whole i a ha = at (λ p. store cells p y a) ∙ W.store-whole-cell cells effective (omega arith) i (h .cells-fit) y a (h .y-fits) ha
 
-  positive : eqb imm 0 ≡ false → 0 < imm
-  positive e = let f : ¬ (imm ≡ 0) = eqb-false imm 0 e in omega arith
-
   by-fields : (k : Kind) (z d s : Bool) → T (not (excluded k)) → Known k (zeros z d s)
       → Agrees env n ofRole d (manual imm pc x y (bytesOf cells) k) (outcome env n ofRole (template (constantOf k imm pc) name k (zeros z d s)))
   unfolding manual outcome template constantOf sraLines loadLines loadSignedLines storeLines mask orLines xorLines
   by-fields Lui z d s v h = word (λ on. W.upper-is imm (omega (arith, ltb-false 1048575 imm (h .range))))
   by-fields Auipc z d s v h = word (λ on. rw (W.upper-is imm (omega (arith, ltb-false 1048575 imm (h .range)))) (ap (λ a. a % 2 ^ 64) (add-comm (sext 32 64 (imm * 2 ^ 12)) pc)))
-  by-fields Lb true d s v h = word (λ on. loaded-signed h 1 (omega arith) (h .within on))
-  by-fields Lb false d s v h = word (λ on. loaded-signed h 1 (omega arith) (h .within on))
-  by-fields Lh true d s v h = word (λ on. loaded-signed h 2 (omega arith) (h .within on))
-  by-fields Lh false d s v h = word (λ on. loaded-signed h 2 (omega arith) (h .within on))
-  by-fields Lw true d s v h = word (λ on. loaded-signed h 4 (omega arith) (h .within on))
-  by-fields Lw false d s v h = word (λ on. loaded-signed h 4 (omega arith) (h .within on))
-  by-fields Ld true d s v h = word (λ on. loaded-whole h (h .within on))
-  by-fields Ld false d s v h = word (λ on. loaded-whole h (h .within on))
-  by-fields Lbu true d s v h = word (λ on. loaded h 1 (omega arith) (h .within on))
-  by-fields Lbu false d s v h = word (λ on. loaded h 1 (omega arith) (h .within on))
-  by-fields Lhu true d s v h = word (λ on. loaded h 2 (omega arith) (h .within on))
-  by-fields Lhu false d s v h = word (λ on. loaded h 2 (omega arith) (h .within on))
-  by-fields Sb true d s v h = memory (λ on. stored h 1 (omega arith) (h .within on))
-  by-fields Sb false d s v h = memory (λ on. stored h 1 (omega arith) (h .within on))
-  by-fields Sh true d s v h = memory (λ on. stored h 2 (omega arith) (h .within on))
-  by-fields Sh false d s v h = memory (λ on. stored h 2 (omega arith) (h .within on))
-  by-fields Sw true d s v h = memory (λ on. stored h 4 (omega arith) (h .within on))
-  by-fields Sw false d s v h = memory (λ on. stored h 4 (omega arith) (h .within on))
-  by-fields Sd true d s v h = memory (λ on. stored-whole h (h .within on))
-  by-fields Sd false d s v h = memory (λ on. stored-whole h (h .within on))
+  by-fields Lb true d s v h = word (λ on. loaded-signed h 1 (omega arith) (within h on))
+  by-fields Lb false d s v h = word (λ on. loaded-signed h 1 (omega arith) (within h on))
+  by-fields Lh true d s v h = word (λ on. loaded-signed h 2 (omega arith) (within h on))
+  by-fields Lh false d s v h = word (λ on. loaded-signed h 2 (omega arith) (within h on))
+  by-fields Lw true d s v h = word (λ on. loaded-signed h 4 (omega arith) (within h on))
+  by-fields Lw false d s v h = word (λ on. loaded-signed h 4 (omega arith) (within h on))
+  by-fields Ld true d s v h = word (λ on. loaded-whole h (within h on))
+  by-fields Ld false d s v h = word (λ on. loaded-whole h (within h on))
+  by-fields Lbu true d s v h = word (λ on. loaded h 1 (omega arith) (within h on))
+  by-fields Lbu false d s v h = word (λ on. loaded h 1 (omega arith) (within h on))
+  by-fields Lhu true d s v h = word (λ on. loaded h 2 (omega arith) (within h on))
+  by-fields Lhu false d s v h = word (λ on. loaded h 2 (omega arith) (within h on))
+  by-fields Sb true d s v h = memory (λ on. stored h 1 (omega arith) (within h on))
+  by-fields Sb false d s v h = memory (λ on. stored h 1 (omega arith) (within h on))
+  by-fields Sh true d s v h = memory (λ on. stored h 2 (omega arith) (within h on))
+  by-fields Sh false d s v h = memory (λ on. stored h 2 (omega arith) (within h on))
+  by-fields Sw true d s v h = memory (λ on. stored h 4 (omega arith) (within h on))
+  by-fields Sw false d s v h = memory (λ on. stored h 4 (omega arith) (within h on))
+  by-fields Sd true d s v h = memory (λ on. stored-whole h (within h on))
+  by-fields Sd false d s v h = memory (λ on. stored-whole h (within h on))
   by-fields Addi z true s v h = tt
   by-fields Addi true false s v h = record { result = ofRole rs1; is = refl; right = λ on. W.address-is true x imm (h .zero-imm) (h .x-fits) }
   by-fields Addi false false true v h = word (λ on. W.zero-plus x imm (h .word) (h .zero-rs1 tt))
@@ -133,7 +136,7 @@ module _ (env : Env) (n : ℕ) (ofRole : Role → Value) (imm pc : ℕ) (name : 
   by-fields Srai z d s v h = word (λ on. sra-lines 64 x (imm % 64) (h .x-fits) (omega arith))
   by-fields Addiw z d s v h = word (λ on. W.add-word x imm)
   by-fields Slliw z d s v h = word (λ on. W.slliw x imm (omega (arith, ltb-false 31 imm (neither _ false (h .amount) .0))))
-  by-fields Srliw z d s v h = word (λ on. W.srliw x imm (positive (h .nonzero)) (omega (arith, ltb-false 31 imm (neither _ false (h .amount) .0))))
+  by-fields Srliw z d s v h = word (λ on. W.srliw x imm (W.positive imm (h .nonzero)) (omega (arith, ltb-false 31 imm (neither _ false (h .amount) .0))))
   by-fields Sraiw z d s v h = word (λ on. W.sraiw x imm (omega (arith, ltb-false 31 (imm % 64) (h .amount))))
   by-fields Add z d s v h = word (λ on. W.add-is x y)
   by-fields Sub z d s v h = word (λ on. sub-is 64 x y)
@@ -144,11 +147,11 @@ module _ (env : Env) (n : ℕ) (ofRole : Role → Value) (imm pc : ℕ) (name : 
   by-fields Or z d s v h = word (λ on. or-lines 64 x y (h .x-fits) (h .y-fits))
   by-fields And z d s v h = word (λ on. W.and-is x y)
   by-fields Mul z d s v h = absurd v
-  by-fields Div z d s v h = absurd v
+  by-fields Div z d s v h = word (λ on. Division.div x y (h .x-fits) (h .y-fits) (h .admitted on .ordinary))
   by-fields Divu z d s v h = word (λ on. W.divu x y)
   by-fields Remu z d s v h = word (λ on. W.remu x y)
   by-fields Addw z d s v h = word (λ on. W.add-word x y)
-  by-fields Divw z d s v h = absurd v
+  by-fields Divw z d s v h = word (λ on. Division.divw x y (h .admitted on .ordinary))
   by-fields Subw z d s v h = word (λ on. W.sub-word x y)
   by-fields Sllw z d s v h = word (λ on. W.sllw x y)
   by-fields Mulw z d s v h = absurd v

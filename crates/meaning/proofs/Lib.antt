@@ -3,5 +3,6 @@ pub mod Roles
 pub mod KindSorts
 pub mod Words
 pub mod Agrees
+pub mod Division
 pub mod KindValues
 pub mod Behind

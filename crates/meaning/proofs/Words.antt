@@ -7,7 +7,7 @@ use mathlib.Core.Path.{_≡_, refl, sym, _∙_, ap}
 use mathlib.Core.Bool.{Bool, true, false, cond}
 use lib.Dec.{eqb, ltb, lit≤}
 use lib.Bits.{bitAnd}
-use borrow.Author.Tests.{eqb-true, eq-eqb, ne-eqb, lt-ltb, le-ltb}
+use borrow.Author.Tests.{eqb-true, eqb-false, eq-eqb, ne-eqb, lt-ltb, le-ltb}
 use Rattle.bitvec.specs.Smtlib.{bit, bvand, bvadd, bvsub, bvudiv, bvurem, bvshl, bvlshr, bvcomp}
 use Rattle.bitvec.specs.Smtlib as Smt
 use Rattle.bitvec.specs.TwosComplement.{sext, sra}
@@ -99,6 +99,9 @@ pub sllw : (x y : ℕ) → sraLines 64 (bvshl 64 x (bvadd 64 (bvand y 31) 32)) 3
 sllw x y = Word.sllw-lines x y ∙ sext-mod 32 64 (x * 2 ^ (y % 32))
 
 -- ---- division
+
+pub positive : (n : ℕ) → eqb n 0 ≡ false → zero < n
+positive n e = let f : ¬ (n ≡ 0) = eqb-false n 0 e in omega arith
 
 pub divu : (x y : ℕ) → bvudiv 64 x y ≡ cond (eqb y 0) (2 ^ 64 - 1) (x / y)
 unfolding bvudiv

@@ -1,8 +1,8 @@
 -- How many bytes a load or a store reaches: RISC-V Unprivileged ISA manual (20191213), sections 2.6 and 5.3.
 use Prim.Native.Nat.{ℕ, _+_, _%_, _^_, _≤_}
-use mathlib.Core.Bool.{Bool, cond}
+use mathlib.Core.Bool.{cond}
 use mathlib.Core.List.{[], _∷_}
-use Rattle.riscv.specs.Kind.{Kind, Lb, Lh, Lw, Ld, Lbu, Lhu, Sb, Sh, Sw, Sd, Mul, Div, Divw, Mulw, oneOf}
+use Rattle.riscv.specs.Kind.{Kind, Lb, Lh, Lw, Ld, Lbu, Lhu, Sb, Sh, Sw, Sd, oneOf}
 
 -- 0 for a kind that is neither
 abbrev pub accessBytes : Kind → ℕ
@@ -13,11 +13,3 @@ accessBytes k =
 -- a load or store from the effective address, rs1 plus imm, on stays in one aligned 8-byte word
 abbrev pub InOneWord : Kind → ℕ → ℕ → Type 0
 InOneWord k rs1 imm = (rs1 + imm) % 2 ^ 64 % 8 + accessBytes k ≤ 8
-
--- what is asked of a call whose flag is true, by its kind, the values of rs1 and rs2, and imm: then its lines give the manual's values
-pub record Admitted (k : Kind) (rs1 rs2 imm : ℕ) : Type 0 where
-  pub oneWord : InOneWord k rs1 imm
-
--- the kinds that demand 3 leaves out
-abbrev pub excluded : Kind → Bool
-excluded k = oneOf k (Mul ∷ Mulw ∷ Div ∷ Divw ∷ [])

@@ -1,2 +1,4 @@
 pub mod Access
+pub mod Division
+pub mod Condition
 pub mod Lines

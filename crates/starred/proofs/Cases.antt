@@ -10,9 +10,9 @@ use Rattle.btor2_list.specs.Node.{opOf}
 use Rattle.btor2_list.specs.View.{view}
 use Rattle.builder.specs.Prog.{_>>=_}
 use Rattle.builder.specs.Append.{appendLine}
-use Rattle.builder_ops.specs.Composed.{newNeq, newUgte, newSra, newShiftRight, checkAdditionOverflow}
+use Rattle.builder_ops.specs.Composed.{newNeq, newUgte, newSra, newShiftRight, newSextBy, checkAdditionOverflow}
 use Rattle.models.specs.Counters.{modelAddress, wordAddress, bitOffset, modelL, modelLoad}
-use Rattle.models.specs.Kinds.{constant, link, withConstant, addiResult, sumWithConstant, modelAddi, shiftedBack, divided, modelBranch}
+use Rattle.models.specs.Kinds.{constant, link, withConstant, addiResult, sumWithConstant, modelAddi, shiftedBack, divided, modelDivw, modelBranch}
 use Rattle.models.specs.Model.{regFlowIte, unimplemented, translate}
 use Rattle.riscv.specs.Constant.{upper, constantOf}
 use Rattle.riscv.specs.Refusal.{refusal}
@@ -31,5 +31,5 @@ use Rattle.listing_bytes.specs.Storage.{startLent}
 use Rattle.starred.specs.Cases.{cases, Starred}
 
 pub starred : Starred
-unfolding cases answerToCase states startLent startNames concat startName namedStates startOps records startWords startIn fromOn startRoles startState loweringGiven refusalGiven roomOf needsOf rolesFit recordAt opOf carried refusal flagOut roomOut settled programOf programWith countsAfter appendLine constantOf upper operandsFor flowsIn withFlows translate regFlowIte unimplemented _>>=_ newNeq newUgte newSra newShiftRight checkAdditionOverflow modelAddress wordAddress bitOffset modelL modelLoad constant link withConstant addiResult sumWithConstant modelAddi shiftedBack divided modelBranch numeral badName view walk mapOp evalOp binary values value Smt.ite bit negative bvnot bvneg bvadd bvsub bvmul bvudiv bvsdiv bvand bvshl bvlshr bvult bvcomp zeroExtend
+unfolding cases answerToCase states startLent startNames concat startName namedStates startOps records startWords startIn fromOn startRoles startState loweringGiven refusalGiven roomOf needsOf rolesFit recordAt opOf carried refusal flagOut roomOut settled programOf programWith countsAfter appendLine constantOf upper operandsFor flowsIn withFlows translate regFlowIte unimplemented _>>=_ newNeq newUgte newSra newShiftRight newSextBy checkAdditionOverflow modelAddress wordAddress bitOffset modelL modelLoad constant link withConstant addiResult sumWithConstant modelAddi shiftedBack divided modelDivw modelBranch numeral badName view walk mapOp evalOp binary values value Smt.ite bit negative bvnot bvneg bvadd bvsub bvmul bvudiv bvsdiv bvand bvshl bvlshr bvult bvcomp zeroExtend
 starred = refl

@@ -26,25 +26,7 @@ const SLLIW: u64 = 21;
 const SRAIW: u64 = 23;
 const BRANCHES: RangeInclusive<u64> = BEQ..=46;
 
-// Random numbers, the same at each run.
-struct Draws(u64);
-
 impl Draws {
-    fn any(&mut self) -> u64 {
-        self.0 ^= self.0 << 13;
-        self.0 ^= self.0 >> 7;
-        self.0 ^= self.0 << 17;
-        self.0
-    }
-
-    fn below(&mut self, n: u64) -> u64 {
-        self.any() % n
-    }
-
-    fn one_in(&mut self, n: u64) -> bool {
-        self.below(n) == 0
-    }
-
     // Most are one of a few, some are the last call's again.
     fn address(&mut self, last: u64) -> u64 {
         match self.below(6) {

@@ -23,7 +23,6 @@ const ONE_WORD: u64 = 3;
 const X5: usize = 8;
 const X6: usize = 9;
 const MEMORY_STATE: usize = 35;
-const FLOWS: usize = FIRST_ROLE + 38;
 const FLOW_OF_MEMORY: usize = FIRST_ROLE + 70;
 
 type Answer = Result<Evaluated, Refusal>;

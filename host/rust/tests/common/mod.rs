@@ -30,6 +30,7 @@ pub const NEXT_NID: usize = 1;
 pub const NAMES_USED: usize = 2;
 pub const EDGES_USED: usize = 3;
 pub const FIRST_ROLE: usize = 6;
+pub const FLOWS: usize = FIRST_ROLE + 38; // that of x1 is one after
 
 // Origins of an edge.
 pub const REGULAR: u64 = 0;
@@ -85,6 +86,26 @@ pub fn lent(s: &mut Storage) -> Lent<'_> {
         dispatches: &mut s.dispatches,
         bads: &mut s.bads,
         state: &mut s.state,
+    }
+}
+
+// Random numbers, the same at each run.
+pub struct Draws(pub u64);
+
+impl Draws {
+    pub fn any(&mut self) -> u64 {
+        self.0 ^= self.0 << 13;
+        self.0 ^= self.0 >> 7;
+        self.0 ^= self.0 << 17;
+        self.0
+    }
+
+    pub fn below(&mut self, n: u64) -> u64 {
+        self.any() % n
+    }
+
+    pub fn one_in(&mut self, n: u64) -> bool {
+        self.below(n) == 0
     }
 }
 
