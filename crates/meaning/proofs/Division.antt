@@ -4,7 +4,7 @@ use Prim.Native.Nat.{ℕ, _+_, _-_, _^_, _<_}
 use native.Mathlib.Omega.{arith}
 use mathlib.Core.Path.{_≡_, refl, sym, _∙_, ap}
 use mathlib.Core.Bool.{Bool, true, false, cond, _&&_, _||_, not}
-use mathlib.Core.List.{[], _∷_}
+use mathlib.Core.List.{List, [], _∷_, map}
 use lib.Dec.{T, eqb, lit<}
 use borrow.Author.Tests.{eqb-true, eqb-false}
 use Rattle.bitvec.specs.Smtlib.{negative, bvneg, bvudiv, bvsdiv, bvshl}
@@ -180,9 +180,24 @@ least64 = 2 ^ 63
 abbrev minusOne64 : ℕ
 minusOne64 = 2 ^ 64 - 1
 
--- Div of −2^63 by −1; Divw of the same two, whose low words are 0 and −1; of −2^31 by −1, with any high halves; of −7 by 2^32
-worked : (
-    ordinary Div least64 minusOne64 ∷ ordinary Divw least64 minusOne64 ∷ ordinary Divw (2 ^ 64 - 2 ^ 31) minusOne64 ∷ ordinary Divw (2 ^ 32 + 2 ^ 31) (2 ^ 32 - 1)
-    ∷ ordinary Div (2 ^ 64 - 2 ^ 31) minusOne64 ∷ ordinary Divw (2 ^ 64 - 7) (2 ^ 32) ∷ ordinary Div (2 ^ 64 - 7) (2 ^ 32) ∷ ordinary Divu 7 0 ∷ []
-    ) ≡ (true ∷ true ∷ false ∷ false ∷ true ∷ false ∷ true ∷ true ∷ [])
+-- a division's kind, dividend and divisor, and whether it is ordinary
+table : List (Kind × ℕ × ℕ × Bool)
+table =
+    -- −2^63 by −1, and for Divw the same registers, whose low words are 0 and −1
+    (Div, least64, minusOne64, true)
+    ∷ (Divw, least64, minusOne64, true)
+    -- −2^31 by −1, for Divw with any high halves
+    ∷ (Div, 2 ^ 64 - least32, minusOne64, true)
+    ∷ (Divw, 2 ^ 64 - least32, minusOne64, false)
+    ∷ (Divw, 2 ^ 32 + least32, minusOne32, false)
+    -- by zero, for Divw in the low word
+    ∷ (Div, 7, 0, false)
+    ∷ (Div, 7, 2 ^ 32, true)
+    ∷ (Divw, 7, 2 ^ 32, false)
+    -- no Div or Divw
+    ∷ (Divu, 7, 0, true)
+    ∷ []
+
+worked : map (λ c. ordinary (c .0) (c .1) (c .2)) table ≡ map (λ c. c .3) table
+unfolding table
 worked = refl

@@ -24,6 +24,10 @@ use Rattle.riscv.specs.Manual.{loadAt, storeAt}
 use Rattle.riscv.specs.Memory.{bytesOf, cellsWith}
 use Rattle.riscv.proofs.InOneCell.{load-agree, load-in-cell, store-hit, store-here, store-there}
 
+-- a number that is not 0 by its test
+pub positive : (n : ℕ) → eqb n 0 ≡ false → zero < n
+positive n e = let f : ¬ (n ≡ 0) = eqb-false n 0 e in omega arith
+
 -- ---- constants
 
 pub upper-is : (imm : ℕ) → imm < 2 ^ 20 → Constant.upper imm ≡ sext 32 64 (imm * 2 ^ 12)
@@ -99,9 +103,6 @@ pub sllw : (x y : ℕ) → sraLines 64 (bvshl 64 x (bvadd 64 (bvand y 31) 32)) 3
 sllw x y = Word.sllw-lines x y ∙ sext-mod 32 64 (x * 2 ^ (y % 32))
 
 -- ---- division
-
-pub positive : (n : ℕ) → eqb n 0 ≡ false → zero < n
-positive n e = let f : ¬ (n ≡ 0) = eqb-false n 0 e in omega arith
 
 pub divu : (x y : ℕ) → bvudiv 64 x y ≡ cond (eqb y 0) (2 ^ 64 - 1) (x / y)
 unfolding bvudiv
