@@ -19,10 +19,10 @@ Exceptions, those of docs/DIFFERENCES.md, each tested to be exactly this one and
   one (document 02, R-4);
 - accesses that leave an aligned word of 8 bytes are not compared (Ld and Sd: that are not aligned).
 
-Then the bench cases about values of document 01 and of document 02, R-4. Prints counts, then 'no difference' or the differences; the exit status is 0 only without any.
---self-test alters the lines, one at a time, wherever what is compared depends on them: each must be found. btor2_values.py evaluates, and
-riscv_manual.py is the manual; nothing is shared with the project's definitions and code. differential/target/oracle (differential/README.md)
-can take PROGRAM's place.
+Then the bench cases about values of document 01 and of document 02, R-4. Prints counts, then 'no difference' or the differences; the exit status
+is 0 only without any. --self-test alters the lines, one at a time, wherever what is compared depends on them: each must be found.
+btor2_values.py evaluates, and riscv_manual.py is the manual; nothing is shared with the project's definitions and code.
+differential/target/oracle (differential/README.md) can take PROGRAM's place.
 """
 import argparse
 import collections
@@ -301,7 +301,8 @@ def listings(lines):
 
 
 def bench_cases():
-    """Document 01's cases about values, and document 02's (R-4): an input line, registers, cells, and the value of the line with this place from the end."""
+    """Document 01's cases about values, and document 02's (R-4): an input line, registers, cells, and the value of the line with this place from the
+    end."""
     yield "0 Lh 1 2 0 6", {2: 64}, {64: 2**63}, -1, -32768
     yield "0 Lh 1 2 0 7", {2: 64}, {64: WORD - 1, 72: WORD - 1}, -1, 0  # across 8 bytes
     yield "0 Div 1 2 3 0", {2: -7, 3: 0}, {}, -1, 1

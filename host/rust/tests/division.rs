@@ -127,8 +127,8 @@ fn corners() {
 #[test]
 fn the_division_flow() {
     let (before, div, divw) = (start(60, 1).state[DIVISION_FLOW], divided(DIV), divided(DIVW));
-    assert_eq!(asked(&div, div.state[DIVISION_FLOW], 7, 0), 0);
+    assert_eq!(asked(&div, div.state[DIVISION_FLOW], 0, 0), 0);
     assert_eq!(asked(&div, div.state[DIVISION_FLOW], 7, 2), 2);
     assert_eq!(divw.state[DIVISION_FLOW], before);
-    assert_eq!(asked(&divw, before, 7, 0), 1); // the word 1, with which the flow starts
+    assert_eq!(asked(&divw, before, 0, 0), 1); // the word 1, with which the flow starts
 }
