@@ -2,12 +2,12 @@
 use mathlib.Core.Path.{◌≡◌, sym, ap, ◌∙◌}
 use mathlib.Core.Bool.{true, false}
 use Prim.Native.Nat.{ℕ, zero, ◌+◌, ◌-◌, ◌*◌, ◌/◌, ◌%◌, ◌^◌, ◌≤◌, ◌<◌}
-use native.Mathlib.Nat.{one-mul, mod-lt, mod-eq_of_lt, div-add-mod', mul-div_cancel, mul-mod_left, add-zero, add-mul-mod_self_right, div-lt_iff_lt-mul, add-mul-div_right}
+use native.Mathlib.Nat.{mod-lt, mod-eq_of_lt, div-add-mod', mul-div_cancel, mul-mod_left, add-zero, add-mul-mod_self_right, div-lt_iff_lt-mul, add-mul-div_right}
 use native.Mathlib.Decide.{dec_le}
 use native.Mathlib.Omega.{arith}
 use borrow.Author.Tests.{lt-ltb, le-ltb, le-leb, lt-leb}
 use lib.Arith.{digits_div, digits_mod, mod-mul}
-use lib.Pow.{pow_pos, pow-add, pow-lt, mod-mod-pow}
+use lib.Pow.{pow_pos, pow-add, mod-mod-pow}
 use Rattle.bitvec.specs.Smtlib.{bit, bvneg, bvadd, bvsub, negative, bvshl, bvlshr, bvult}
 use Rattle.bitvec.specs.TwosComplement.{sext, sra, slt, sltu}
 
@@ -55,10 +55,6 @@ pow_sum i j e = rw (← e) (pow-add 2 i j)
 -- half of 2 ^ w
 pub pow_half : {w : ℕ} → zero < w → 2 ^ w ≡ 2 * 2 ^ (w - 1)
 pow_half {w} h = pow_sum 1 (w - 1) (omega arith)
-
--- the code's `1 << k` in w bits
-pub one_shifted : (k w : ℕ) → k < w → 1 * 2 ^ k % 2 ^ w ≡ 2 ^ k
-one_shifted k w h = let l : 2 ^ k < 2 ^ w = pow-lt h in rw one-mul (mod-eq_of_lt l)
 
 pub mod_low : (n : ℕ) {k w : ℕ} → k ≤ w → n % 2 ^ w % 2 ^ k ≡ n % 2 ^ k
 mod_low n {k} {w} h = ap (λ (x : ℕ). n % 2 ^ x % 2 ^ k) (sub_add) ∙ mod-mod-pow n (w - k) k

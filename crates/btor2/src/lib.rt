@@ -1,16 +1,18 @@
 // Sorts, identifiers and places of BTOR2 node lines (the types of unicorn's mod.rs).
+#![tactic(auto)]
+
 ghost use Rattle.std.specs.Prelude.{◌≡◌};
-ghost use Rattle.btor2.specs.Sort.{sort_number, sort_numbered, width, padding};
+ghost use Rattle.btor2.specs.Sort.{sort_number, sort_numbered, width};
 
 // The identifier that a line is printed under. A State with an init takes two, so identifiers and places drift apart.
-#[derive(Drop)]
+#[derive(Clone, Copy)]
 pub struct Nid(pub u64);
 
 // A place in the list of lines.
-#[derive(Drop)]
+#[derive(Clone, Copy)]
 pub struct NodeRef(pub usize);
 
-#[derive(Drop)]
+#[derive(Clone, Copy)]
 pub enum NodeType {
     Bit,
     Word,
@@ -31,16 +33,8 @@ pub const WORD: u64 = 2;
 
 pub const MEMORY: u64 = 3;
 
-// The first and the last number that `get_sort` gives for an input.
-pub const FIRST_INPUT: u64 = 11;
-
-pub const LAST_SORT: u64 = 17;
-
-// What `bitsize` gives for a Word.
-pub const WORD_BITS: u64 = 64;
-
 // Where the bytes of a name lie: area 1 is the host's, 2 ours, and a missing name has area 0.
-#[derive(Drop)]
+#[derive(Clone, Copy)]
 pub struct Name {
     pub area: u64,
     pub at: u64,
@@ -48,27 +42,27 @@ pub struct Name {
 }
 
 // A sort, or none.
-#[derive(Drop)]
+#[derive(Clone, Copy)]
 pub enum MaybeSort {
     Sort(NodeType),
     NoSort,
 }
 
-// The number that a sort is printed as, that of its sort line.
+// The number that a sort is printed as.
 pub fn get_sort(sort: NodeType) -> u64
     ensures { result ≡ sort_number sort }
 {
     match sort {
-        NodeType::Bit => 1, // 1 sort bitvec 1
-        NodeType::Word => 2, // 2 sort bitvec 64
-        NodeType::Memory => 3, // 3 sort array 2 2
-        NodeType::Input1Byte => 11, // 11 sort bitvec 8
-        NodeType::Input2Byte => 12, // 12 sort bitvec 16
-        NodeType::Input3Byte => 13, // 13 sort bitvec 24
-        NodeType::Input4Byte => 14, // 14 sort bitvec 32
-        NodeType::Input5Byte => 15, // 15 sort bitvec 40
-        NodeType::Input6Byte => 16, // 16 sort bitvec 48
-        NodeType::Input7Byte => 17, // 17 sort bitvec 56
+        NodeType::Bit => 1,
+        NodeType::Word => 2,
+        NodeType::Memory => 3,
+        NodeType::Input1Byte => 11,
+        NodeType::Input2Byte => 12,
+        NodeType::Input3Byte => 13,
+        NodeType::Input4Byte => 14,
+        NodeType::Input5Byte => 15,
+        NodeType::Input6Byte => 16,
+        NodeType::Input7Byte => 17,
     }
 }
 
@@ -106,23 +100,5 @@ pub fn bitsize(sort: NodeType) -> u64
         NodeType::Input5Byte => 40,
         NodeType::Input6Byte => 48,
         NodeType::Input7Byte => 56,
-    }
-}
-
-// By how many bits `uext` extends a value of a sort to a Word. None from Memory is printed.
-pub fn padding(from: NodeType) -> u64
-    ensures { result ≡ padding from }
-{
-    match from {
-        NodeType::Bit => 63,
-        NodeType::Word => 0,
-        NodeType::Memory => 64,
-        NodeType::Input1Byte => 56,
-        NodeType::Input2Byte => 48,
-        NodeType::Input3Byte => 40,
-        NodeType::Input4Byte => 32,
-        NodeType::Input5Byte => 24,
-        NodeType::Input6Byte => 16,
-        NodeType::Input7Byte => 8,
     }
 }

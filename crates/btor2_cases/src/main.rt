@@ -4,6 +4,8 @@
 //   3 LINES PLACE                                                    looks a place up
 //   4 AREA AT LEN                                                    finds a name in `host` or in `own area`
 //   5 LINES PLACE                                                    tells the address of the line at a place
+#![tactic(auto)]
+
 use btor2::{MaybeSort, Name, NodeRef, get_sort};
 use btor2_list::{Found, MaybeAddress};
 use cases::{read_decimal, read_record, show, show_record};

@@ -12,9 +12,11 @@ use lib.ListN.{length, get_or, set, length-set}
 use lib.Seq.{sets, length-sets, get_or-set_same, get_or-set_other}
 use Rattle.bitvec.proofs.Truth.{neither}
 use Rattle.bitvec.proofs.Base.{by_le}
+use Rattle.btor2.specs.declared.NodeType.{NodeType}
 use Rattle.btor2.specs.declared.MaybeSort.{MaybeSort}
-use Rattle.btor2.specs.Sort.{sort_numbered}
-use Rattle.btor2.proofs.Sort.{no_sort_past}
+use Rattle.btor2.specs.declared.MaybeSort.TheVariants.{NoSort}
+use Rattle.btor2.specs.Sort.{sort_number, first_numbered, sorts, sort_numbered}
+use Rattle.btor2.proofs.Sort.{number_small}
 use Rattle.btor2_list.specs.declared.Line.{Line}
 use Rattle.btor2_list.specs.declared.MaybeAddress.{MaybeAddress}
 use Rattle.btor2_list.specs.declared.MaybeAddress.TheVariants.{Address, NoAddress}
@@ -88,8 +90,12 @@ address_back : (w : MaybeAddress) → address_by (address_mark w) (address_word 
 address_back (Address a) = refl
 address_back NoAddress = refl
 
+no_sort_lem : (ss : List NodeType) (n : ℕ) → 17 < n → first_numbered ss n ≡ NoSort
+no_sort_lem [] n h = refl
+no_sort_lem (s ∷ ss) n h = rw (ne_eqb n (sort_number s) (λ e. omega (arith, number_small s))) (no_sort_lem ss n h)
+
 any_sort : (n : ℕ) → sort_numbered (saturated most_in_byte n) ≡ sort_numbered n
-any_sort n = by_le 256 n (λ l. rw (lt-ltb most_in_byte n l) (sym (no_sort_past n (omega arith)))) (λ l. ap sort_numbered (kept most_in_byte n (omega arith)))
+any_sort n = by_le 256 n (λ l. rw (lt-ltb most_in_byte n l) (sym (no_sort_lem sorts n (omega arith)))) (λ l. ap sort_numbered (kept most_in_byte n (omega arith)))
 
 -- the mark is 0 where there is no init
 any_mark : (i : ℕ) → eqb (saturated mark i) 0 ≡ eqb i 0

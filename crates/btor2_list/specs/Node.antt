@@ -2,7 +2,6 @@
 use Rattle.std.specs.Prelude.{ℕ, cond, List, [], ◌∷◌, eqb}
 use Rattle.btor2.specs.declared.Name.{Name}
 use Rattle.btor2.specs.declared.NodeType.{NodeType}
-use Rattle.btor2.specs.declared.NodeType.TheVariants.{Bit, Word, Memory}
 use Rattle.btor2.specs.declared.MaybeSort.{MaybeSort}
 use Rattle.btor2.specs.declared.MaybeSort.TheVariants.{Sort, NoSort}
 use Rattle.btor2.specs.Sort.{sort_number, sort_numbered}
@@ -57,12 +56,12 @@ bin_kind ult = ult_kind
 
 abbrev pub line_of : MaybeAddress → ℕ → Op ℕ → Line
 line_of address nid (const s n) = row address nid const_kind (sort_number s) 0 0 0 n no_name
-line_of address nid (read m a) = row address nid read_kind (sort_number Word) m a 0 0 no_name
-line_of address nid (write m a v) = row address nid write_kind (sort_number Memory) m a v 0 no_name
+line_of address nid (read m a) = row address nid read_kind 2 m a 0 0 no_name
+line_of address nid (write m a v) = row address nid write_kind 3 m a v 0 no_name
 line_of address nid (bin o a b) = row address nid (bin_kind o) (sort_number (bin_sort o)) a b 0 0 no_name
 line_of address nid (uext s a) = row address nid uext_kind (sort_number s) a 0 0 0 no_name
 line_of address nid (ite s c a b) = row address nid ite_kind (sort_number s) c a b 0 no_name
-line_of address nid (eq a b) = row address nid eq_kind (sort_number Bit) a b 0 0 no_name
+line_of address nid (eq a b) = row address nid eq_kind 1 a b 0 0 no_name
 line_of address nid (and s a b) = row address nid and_kind (sort_number s) a b 0 0 no_name
 line_of address nid (or s a b) = row address nid or_kind (sort_number s) a b 0 0 no_name
 line_of address nid (not s a) = row address nid not_kind (sort_number s) a 0 0 0 no_name

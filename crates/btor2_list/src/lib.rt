@@ -1,4 +1,6 @@
 // The list of lines: records of numbers at a fixed stride in words that the host lends.
+#![tactic(auto)]
+
 mod name;
 mod operator;
 
@@ -108,7 +110,7 @@ pub const INPUT: u64 = 21;
 pub const BAD: u64 = 22;
 
 // The address of the instruction that a line was lowered for. A line that a join appended has none, and one of the start what the host gave it.
-#[derive(Drop)]
+#[derive(Clone, Copy)]
 pub enum MaybeAddress {
     Address(u64),
     NoAddress,
@@ -116,7 +118,7 @@ pub enum MaybeAddress {
 
 // The record of a line. Operands stand in printed order; a State's init is op1, and there where imm is not 0. A field that a kind does
 // not use is not looked at; where we write the record it is 0.
-#[derive(Drop)]
+#[derive(Clone, Copy)]
 pub struct Line {
     pub nid: Nid,
     pub kind: u64,
@@ -130,7 +132,7 @@ pub struct Line {
 }
 
 // What stands at a place of the lent words.
-#[derive(Drop)]
+#[derive(Clone, Copy)]
 pub enum Found {
     Line(Line),
     Outside,
@@ -138,7 +140,7 @@ pub enum Found {
 
 // What a place is to a line that names it: the identifier of the line there, 0 where there is none, and the sort of the value that it carries;
 // a place outside carries none, nor do Next, Bad and a line of unknown kind or sort.
-#[derive(Drop)]
+#[derive(Clone, Copy)]
 pub struct Looked {
     pub nid: Nid,
     pub sort: MaybeSort,

@@ -15,7 +15,7 @@ use crate::{
 use btor2::{MaybeSort, Name, NodeRef, NodeType, sort_of};
 
 // The operators on two words.
-#[derive(Drop)]
+#[derive(Clone, Copy)]
 pub enum Bin {
     Add,
     Sub,
@@ -30,7 +30,7 @@ pub enum Bin {
 
 // What a record says, with the fields that its kind uses: one of unicorn's `Node`, a State with an init apart, or a record of no known kind
 // or sort.
-#[derive(Drop)]
+#[derive(Clone, Copy)]
 pub enum LineOperator {
     Const(NodeType, u64),
     Read(NodeRef, NodeRef),

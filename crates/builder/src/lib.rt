@@ -1,5 +1,7 @@
 // The tally of lines and identifiers, and the append (unicorn's `add_node`). It is total: where the lent words hold no further record it
 // changes nothing.
+#![tactic(auto)]
+
 mod binary;
 mod lines;
 mod logic;
@@ -19,14 +21,14 @@ pub use logic::{new_and_bit, new_and_word, new_eq, new_not_bit, new_not_word};
 pub use memory::{new_read, new_write};
 
 // The count of lines, and the next identifier.
-#[derive(Drop)]
+#[derive(Clone, Copy)]
 pub struct Tally {
     pub lines: usize,
     pub nid: u64,
 }
 
 // What an append gives: the tally after it, and the new line's place.
-#[derive(Drop)]
+#[derive(Clone, Copy)]
 pub struct Made {
     pub tally: Tally,
     pub node: NodeRef,

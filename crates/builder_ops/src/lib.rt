@@ -1,4 +1,6 @@
 // The operators that unicorn composes of others: unequal, or, arithmetic shift. Each call is handed the tally that the one before it left.
+#![tactic(auto)]
+
 mod extend;
 mod operator;
 mod overflow;

@@ -9,7 +9,7 @@ use btor2_list::Bin;
 use builder::{Made, Tally, new_and_word, new_bin, new_const, new_eq, new_not_bit};
 
 // The operators by which kinds of one family differ (unicorn passes them as closures).
-#[derive(Drop)]
+#[derive(Clone, Copy)]
 pub enum Operator {
     Eq,
     Neq,

@@ -8,7 +8,7 @@ use builder::Tally;
 use state::{Counts, ROLES, State};
 
 // The state after a command, and where the next one starts.
-#[derive(Drop)]
+#[derive(Clone, Copy)]
 pub struct Step {
     pub state: State,
     pub next: usize,

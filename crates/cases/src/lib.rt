@@ -1,4 +1,6 @@
 // What the tables of cases share: their numbers, their records of lines, the states that their calls start from, and what their programs write.
+#![tactic(auto)]
+
 mod decimal;
 mod held;
 mod record;

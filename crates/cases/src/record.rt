@@ -7,7 +7,7 @@ use btor2::{Name, Nid, NodeRef};
 use btor2_list::{Line, address_by};
 
 // A record, the place that it is to be put at, and where the text goes on.
-#[derive(Drop)]
+#[derive(Clone, Copy)]
 pub struct Placed {
     pub place: NodeRef,
     pub line: Line,

@@ -1,5 +1,7 @@
 // In-edges: as a record, and as numbers in a slice that the host lends. Each put is total: where the slice holds no further edge it changes
 // nothing.
+#![tactic(auto)]
+
 mod dispatches;
 
 ghost use Rattle.std.specs.Prelude.{◌≡◌, ◌+◌, ◌≤◌};
@@ -26,7 +28,7 @@ pub const SYSCALL: u64 = 2;
 pub const NO_CONDITION: u64 = 0xffff_ffff_ffff_ffff;
 
 // An in-edge as a record: the address it leads to, the one it comes from, its origin and its condition's place.
-#[derive(Drop)]
+#[derive(Clone, Copy)]
 pub struct InEdge {
     pub to: u64,
     pub from: u64,

@@ -6,6 +6,8 @@
 //   4 ROLE PLACE                                    sets a role
 // Command 1 writes its refusal, 0 for none; the words of the lines, dispatches and bads that it appended, and its bytes of names; the tally and
 // the counts; the roles; and the five records. tools/entry_cases.py made the commands and what is to be written.
+#![tactic(auto)]
+
 ghost use Rattle.std.specs.Prelude.{◌≤◌};
 
 use btor2::NodeRef;
@@ -20,7 +22,7 @@ use state::{ROLES, State};
 const RECORDS: usize = 5;
 
 // The state and the records after a command, and where the next one starts.
-#[derive(Drop)]
+#[derive(Clone, Copy)]
 struct Went {
     state: State,
     records: [InEdge; RECORDS],
@@ -28,7 +30,7 @@ struct Went {
 }
 
 // What a call gives, and the records after it.
-#[derive(Drop)]
+#[derive(Clone, Copy)]
 struct Recorded {
     lowered: Lowered,
     records: [InEdge; RECORDS],

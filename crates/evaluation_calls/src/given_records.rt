@@ -3,13 +3,16 @@ ghost use Rattle.std.specs.Prelude.{◌≡◌, ◌%◌, ◌^◌, ◌≤◌, ◌&
 ghost use Rattle.btor2.specs.Sort.{width};
 ghost use Rattle.evaluation.specs.Given.{given_value, given_cell};
 
-use btor2::{NodeRef, NodeType, WORD_BITS, bitsize};
+use btor2::{NodeRef, NodeType, bitsize};
 
 // The words of a record of a value: node, value.
 const VALUE: usize = 2;
 
 // The words of a record of memory: node, address, word.
 const CELL: usize = 3;
+
+// The bits of a word.
+const WORD_BITS: u64 = 64;
 
 // The value of a state or an input of a sort: the first record's for its place, modulo 2 to the width. A memory, which has no width, has 0.
 pub(crate) fn given(values: &[u64], place: NodeRef, s: NodeType) -> u64

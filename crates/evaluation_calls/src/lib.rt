@@ -1,4 +1,6 @@
 // The bench: the value of a line on given values, with the visits that it takes.
+#![tactic(auto)]
+
 mod given_records;
 mod operators;
 
@@ -60,7 +62,7 @@ pub fn evaluate(
 }
 
 // Two values, and the visits so far.
-#[derive(Drop)]
+#[derive(Clone, Copy)]
 enum Pair {
     Refused(u64),
     Values(u64, u64, u64),
@@ -273,7 +275,7 @@ fn alike(
 }
 
 // A visit: the number of its refusal, or 0 and what the line says.
-#[derive(Drop)]
+#[derive(Clone, Copy)]
 struct Visited {
     refusal: u64,
     line: LineOperator,

@@ -9,6 +9,8 @@
 // The areas hold 4,100 lines, 128 records of values and 128 of memory, all 0 at first. What does not fit is dropped whole. A line's own place is
 // the count of whole lines in use before it. Words that are no longer in use stay as they are, and command 5 lends them too.
 // Command 5 writes the value and the visits, or `refused` and the number. tools/evaluation_cases.py made the commands and what is to be written.
+#![tactic(auto)]
+
 use btor2::NodeRef;
 use btor2_list::STRIDE;
 use cases::{read_decimal, show};
@@ -17,7 +19,7 @@ use evaluation_calls::evaluate;
 use libc::{STDIN_FILENO, STDOUT_FILENO};
 
 // How many words of each area are in use.
-#[derive(Drop)]
+#[derive(Clone, Copy)]
 struct Used {
     list: usize,
     values: usize,
@@ -25,14 +27,14 @@ struct Used {
 }
 
 // What is in use after a command, and where the next one starts.
-#[derive(Drop)]
+#[derive(Clone, Copy)]
 struct Step {
     used: Used,
     next: usize,
 }
 
 // The four words of a line.
-#[derive(Drop)]
+#[derive(Clone, Copy)]
 struct Words {
     head: u64,
     a: u64,

@@ -1,1 +1,2 @@
 // What the answers of the bench mean: specs/Laws; no code.
+#![tactic(auto)]

@@ -1,4 +1,6 @@
 // The library for a host in C or Rust. A slice is a pointer and a length there; the state is 85 words that the host keeps.
+#![tactic(auto)]
+
 ghost use Rattle.std.specs.Prelude.{◌≡◌, length};
 ghost use Rattle.lowering.specs.Lowering.{lent};
 ghost use Rattle.state.specs.Room.{room_of};

@@ -1,17 +1,19 @@
 // One address's edges and dispatches joined into its flag: what a call is given, refuses and gives, and how each edge goes in (specs/). The
 // code is join_calls.
+#![tactic(auto)]
+
 use btor2::NodeRef;
 use state::State;
 
 // What passes from call to call: the lowering's state, and how many sequentials are in use.
-#[derive(Drop)]
+#[derive(Clone, Copy)]
 pub struct JoinHeld {
     pub state: State,
     pub sequentials: usize,
 }
 
 // The numbers that a join is given: how many edges, dispatches and flags, the kernel-mode and the kernel-not node, and the starting flow.
-#[derive(Drop)]
+#[derive(Clone, Copy)]
 pub struct Asked {
     pub edges: usize,
     pub dispatches: usize,
@@ -22,7 +24,7 @@ pub struct Asked {
 }
 
 // What a join gives: its refusal, 0 where there is none, the flow, and what passes on.
-#[derive(Drop)]
+#[derive(Clone, Copy)]
 pub struct Joined {
     pub refusal: u64,
     pub flow: NodeRef,
@@ -30,14 +32,14 @@ pub struct Joined {
 }
 
 // The zero and the one bit.
-#[derive(Drop)]
+#[derive(Clone, Copy)]
 pub struct Bits {
     pub zero: NodeRef,
     pub one: NodeRef,
 }
 
 // The kernel-mode and the kernel-not node.
-#[derive(Drop)]
+#[derive(Clone, Copy)]
 pub struct Kernel {
     pub mode: NodeRef,
     pub none: NodeRef,

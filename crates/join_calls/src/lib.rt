@@ -1,4 +1,6 @@
 // The join of one address's edges and dispatches into its flag: the refusals first, then the lines.
+#![tactic(auto)]
+
 mod control_flow;
 mod lines;
 mod refusals;
@@ -75,7 +77,7 @@ pub fn join(
 }
 
 // What a join over the state's words gives: its refusal, 0 where there is none, the flow, and how many sequentials there are.
-#[derive(Drop)]
+#[derive(Clone, Copy)]
 pub struct JoinedWords {
     pub refusal: u64,
     pub flow: NodeRef,

@@ -30,7 +30,7 @@ pub(crate) const DYNAMICS: usize = 31;
 pub(crate) const NO_FLAG: NodeRef = NodeRef(0xffff_ffff_ffff_ffff);
 
 // How far a join has come: the tally, the counts of the sequentials and of our name area, and the flow.
-#[derive(Drop)]
+#[derive(Clone, Copy)]
 pub(crate) struct Joining {
     pub tally: Tally,
     pub sequentials: usize,

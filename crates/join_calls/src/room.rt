@@ -13,7 +13,7 @@ use edges::{BRANCH, EDGE, SYSCALL};
 
 // The room that is left for lines, bytes of names and sequentials, and whether the flow is the zero bit's own place, which is replaced without a
 // line.
-#[derive(Drop)]
+#[derive(Clone, Copy)]
 pub(crate) struct Left {
     pub lines: usize,
     pub names: usize,

@@ -17,6 +17,8 @@
 // and a number each for the whole list, our area, the sequentials, the roles and the words that a call may use, whatever of them is lent or in
 // use.
 // tools/join_cases.py made the commands and what is to be written.
+#![tactic(auto)]
+
 ghost use Rattle.std.specs.Prelude.{◌<◌, ◌≤◌};
 
 use btor2::NodeRef;
@@ -52,7 +54,7 @@ const FLAGGED: usize = 31;
 const NO_PLACE: u64 = 0xffff_ffff_ffff_ffff;
 
 // How much a call is lent of the list, our name area, the sequentials and the words that it may use.
-#[derive(Drop)]
+#[derive(Clone, Copy)]
 struct Lent {
     list: usize,
     names: usize,
@@ -61,21 +63,21 @@ struct Lent {
 }
 
 // The kernel-mode and the kernel-not node.
-#[derive(Drop)]
+#[derive(Clone, Copy)]
 struct Nodes {
     mode: NodeRef,
     none: NodeRef,
 }
 
 // How many records of each area are in use, and how many words of it are lent.
-#[derive(Drop)]
+#[derive(Clone, Copy)]
 struct Given {
     counts: [usize; AREAS],
     words: [usize; AREAS],
 }
 
 // All that stays from command to command but the words themselves.
-#[derive(Drop)]
+#[derive(Clone, Copy)]
 struct Desk {
     held: JoinHeld,
     nodes: Nodes,
@@ -84,7 +86,7 @@ struct Desk {
 }
 
 // The desk after a command, and where the next one starts.
-#[derive(Drop)]
+#[derive(Clone, Copy)]
 struct Went {
     desk: Desk,
     next: usize,

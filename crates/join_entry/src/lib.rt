@@ -1,5 +1,7 @@
 // The join with one address's in-edges in a lent slice of records. Their words are put into words that the host lends, and the core, over
 // number slices, does the work.
+#![tactic(auto)]
+
 ghost use Rattle.std.specs.Prelude.{◌≡◌, ◌+◌, ◌*◌, ◌≤◌, length, take};
 ghost use Rattle.std.proofs.lemmas.List.Edits.{sets};
 ghost use Rattle.edges.specs.Edges.{edge, edge_stride};

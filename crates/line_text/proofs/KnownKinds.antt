@@ -1,10 +1,9 @@
--- Records by their kinds and by their operands, and a State's rows. Assumes nothing.
-use Rattle.std.proofs.Common.{◌≡◌, ℕ, ◌+◌, ◌%◌, ◌^◌, Bool, true, false, cond, eqb, List, [], ◌∷◌, ◌++◌, refl, append-nil}
+-- Records by their kinds and by their operands, the number of a sort, and a State's rows. Assumes nothing.
+use Rattle.std.proofs.Common.{◌≡◌, ℕ, ◌+◌, ◌%◌, ◌^◌, Bool, true, false, cond, eqb, List, [], ◌∷◌, ◌++◌, sym, refl, ap, ◌∙◌, append-nil, arith, eqb-true}
 use Rattle.btor2.specs.declared.NodeType.{NodeType}
 use Rattle.btor2.specs.declared.MaybeSort.{MaybeSort}
 use Rattle.btor2.specs.declared.MaybeSort.TheVariants.{Sort, NoSort}
-use Rattle.btor2.specs.Sort.{sort_numbered}
-use Rattle.btor2.proofs.Sort.{number_of}
+use Rattle.btor2.specs.Sort.{sort_number, first_numbered, sorts, sort_numbered}
 use Rattle.btor2.specs.declared.Name.{Name}
 use Rattle.btor2.specs.Op.{Op, state, state_init, map_op}
 use Rattle.btor2_list.specs.declared.Line.{Line}
@@ -16,6 +15,20 @@ use Rattle.line_text.specs.Record.{line_text, with_operands}
 -- a record with another kind
 abbrev pub of_kind : ℕ → Line → Line
 of_kind k l = record { nid = l.nid; kind = k; sort = l.sort; op1 = l.op1; op2 = l.op2; op3 = l.op3; imm = l.imm; name = l.name; address = l.address }
+
+-- ---- the number of a sort
+
+one_number : (t s : NodeType) (n : ℕ) (rest : MaybeSort) → (rest ≡ Sort s → sort_number s ≡ n) → (b : Bool) → eqb n (sort_number t) ≡ b
+    → cond b (Sort t) rest ≡ Sort s → sort_number s ≡ n
+one_number t s n rest others true h e = let i : t ≡ s = cc in ap sort_number (sym i) ∙ sym (eqb-true n (sort_number t) h)
+one_number t s n rest others false h e = others e
+
+first_number : (ss : List NodeType) (s : NodeType) (n : ℕ) → first_numbered ss n ≡ Sort s → sort_number s ≡ n
+first_number [] s n e = let z : ◌≡◌ {A = ℕ} 0 1 = cc in absurd (omega arith)
+first_number (t ∷ ss) s n e = one_number t s n (first_numbered ss n) (first_number ss s n) (eqb n (sort_number t)) refl e
+
+pub number_of : (s : NodeType) (n : ℕ) → sort_numbered n ≡ Sort s → sort_number s ≡ n
+number_of s n e = first_number sorts s n e
 
 -- ---- the text of a State
 

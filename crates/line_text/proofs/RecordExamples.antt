@@ -1,8 +1,7 @@
 -- Lines whose text is known: document 01's listing, and unicorn's formats. Assumes nothing.
-use Rattle.std.proofs.Common.{◌≡◌, ℕ, ◌-◌, ◌^◌, List, [], ◌∷◌, map, refl}
+use Rattle.std.proofs.Common.{◌≡◌, ℕ, ◌-◌, ◌^◌, List, refl}
 use Rattle.btor2.specs.declared.Name.{Name}
-use Rattle.btor2.specs.declared.NodeType.TheVariants.{Bit, Word}
-use Rattle.btor2.specs.Sort.{sorts}
+use Rattle.btor2.specs.declared.NodeType.TheVariants.{Bit, Word, Input3Byte}
 use Rattle.btor2.specs.Op.{ult, const, bin, uext, ite, not, state_init, bad}
 use Rattle.btor2_list.specs.Node.{no_name}
 use Rattle.text.specs.Numeral.{numeral}
@@ -34,19 +33,10 @@ largest : line_text names 7 (const Word (2 ^ 64 - 1)) ≡ ascii "7 constd 2 1844
 unfolding line_text row_text numeral
 largest = refl
 
--- "1, 2, 3 and 11 to 17", in the order of the sort lines
-numbers : map (λ s. line_text names 7 (not s 5)) sorts
-    ≡ map ascii
-    ("7 not 1 5\n" ∷ "7 not 2 5\n" ∷ "7 not 3 5\n" ∷ "7 not 11 5\n" ∷ "7 not 12 5\n" ∷ "7 not 13 5\n" ∷ "7 not 14 5\n" ∷ "7 not 15 5\n" ∷ "7 not 16 5\n" ∷ "7 not 17 5\n" ∷ [])
+-- `64 - from.bitsize()`
+three_bytes : line_text names 7 (uext Input3Byte 5) ≡ ascii "7 uext 2 5 40\n"
 unfolding line_text row_text numeral
-numbers = refl
-
--- "63 for Bit, 64 − 8n for n bytes, 0 for Word"; the third, from Memory, is refused before it is printed
-paddings : map (λ s. line_text names 7 (uext s 5)) sorts
-    ≡ map ascii
-    ("7 uext 2 5 63\n" ∷ "7 uext 2 5 0\n" ∷ "7 uext 2 5 64\n" ∷ "7 uext 2 5 56\n" ∷ "7 uext 2 5 48\n" ∷ "7 uext 2 5 40\n" ∷ "7 uext 2 5 32\n" ∷ "7 uext 2 5 24\n" ∷ "7 uext 2 5 16\n" ∷ "7 uext 2 5 8\n" ∷ [])
-unfolding line_text row_text numeral
-paddings = refl
+three_bytes = refl
 
 -- the init's row has the next identifier
 with_init : line_text names 9 (state_init Bit 5 (record { area = 1; at = 0; len = 4 })) ≡ ascii "9 state 1 flag\n10 init 1 9 5\n"

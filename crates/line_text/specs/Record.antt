@@ -1,9 +1,8 @@
 -- The text of a node line whose operands are identifiers, clause by clause as unicorn's `write_model` prints them with 64-bit values.
-use Rattle.std.specs.Prelude.{ℕ, ◌+◌, ◌%◌, ◌^◌, true, false, cond, ◌||◌, List, [], ◌∷◌, ◌++◌, ◌==◌}
+use Rattle.std.specs.Prelude.{ℕ, ◌+◌, ◌-◌, ◌%◌, ◌^◌, true, false, cond, ◌||◌, List, [], ◌∷◌, ◌++◌, ◌==◌}
 use Prim.Native.String.{String}
 use Rattle.btor2.specs.declared.Name.{Name}
-use Rattle.btor2.specs.declared.NodeType.TheVariants.{Bit, Word, Memory}
-use Rattle.btor2.specs.Sort.{sort_number, padding}
+use Rattle.btor2.specs.Sort.{sort_number, width}
 use Rattle.btor2.specs.Op.{Bin, add, sub, mul, udiv, sdiv, urem, sll, srl, ult, Op, const, read, write, bin, uext, ite, eq, and, or, not, state, state_init, next, input, bad, unknown, bin_sort}
 use Rattle.btor2_list.specs.declared.Line.{Line}
 use Rattle.btor2_list.specs.NameBytes.{name_bytes}
@@ -33,12 +32,12 @@ bin_word ult = "ult"
 -- kind or sort has no text; it is refused with 11, and so is a uext from Memory, at which the Rust panics.
 unfoldable pub line_text : (Name → List ℕ) → ℕ → Op ℕ → List ℕ
 line_text names nid (const s imm) = plain_row nid "constd" (sort_number s ∷ imm ∷ [])
-line_text names nid (read m a) = plain_row nid "read" (sort_number Word ∷ m ∷ a ∷ [])
-line_text names nid (write m a v) = plain_row nid "write" (sort_number Memory ∷ m ∷ a ∷ v ∷ [])
+line_text names nid (read m a) = plain_row nid "read" (2 ∷ m ∷ a ∷ [])
+line_text names nid (write m a v) = plain_row nid "write" (3 ∷ m ∷ a ∷ v ∷ [])
 line_text names nid (bin o a b) = plain_row nid (bin_word o) (sort_number (bin_sort o) ∷ a ∷ b ∷ [])
-line_text names nid (uext from a) = plain_row nid "uext" (sort_number Word ∷ a ∷ padding from ∷ [])
+line_text names nid (uext from a) = plain_row nid "uext" (2 ∷ a ∷ (64 - width from) ∷ [])
 line_text names nid (ite s c a b) = plain_row nid "ite" (sort_number s ∷ c ∷ a ∷ b ∷ [])
-line_text names nid (eq a b) = plain_row nid "eq" (sort_number Bit ∷ a ∷ b ∷ [])
+line_text names nid (eq a b) = plain_row nid "eq" (1 ∷ a ∷ b ∷ [])
 line_text names nid (and s a b) = plain_row nid "and" (sort_number s ∷ a ∷ b ∷ [])
 line_text names nid (or s a b) = plain_row nid "or" (sort_number s ∷ a ∷ b ∷ [])
 line_text names nid (not s a) = plain_row nid "not" (sort_number s ∷ a ∷ [])

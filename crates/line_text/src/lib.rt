@@ -1,4 +1,6 @@
 // Node lines of a list as text, one or a run of them.
+#![tactic(auto)]
+
 mod record;
 
 ghost use Rattle.std.specs.Prelude.{◌≡◌, length};

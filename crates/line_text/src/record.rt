@@ -1,8 +1,8 @@
 // The text of a record by the identifiers of its operands (the per-node part of unicorn's `write_model`): one row, or two for a State with an
 // init.
-ghost use Rattle.std.specs.Prelude.{◌≡◌, ◌+◌, ◌%◌, ◌^◌, true, false, [], ◌∷◌, ◌++◌, if◌then◌else◌, nat_eq};
+ghost use Rattle.std.specs.Prelude.{◌≡◌, ◌+◌, ◌-◌, ◌%◌, ◌^◌, true, false, [], ◌∷◌, ◌++◌, if◌then◌else◌, nat_eq};
 ghost use Rattle.text.specs.Put.{Put};
-ghost use Rattle.btor2.specs.Sort.{sort_numbered, padding};
+ghost use Rattle.btor2.specs.Sort.{sort_numbered, width};
 ghost use Rattle.btor2.specs.declared.NodeType.{NodeType};
 ghost use Rattle.btor2.specs.declared.MaybeSort.TheVariants.{Sort, NoSort};
 ghost use Rattle.btor2.specs.Op.{unknown};
@@ -13,7 +13,7 @@ ghost use Rattle.row_text.specs.Row.{row_text};
 ghost use Rattle.line_text.specs.OwnSort.{own_sort};
 ghost use Rattle.line_text.specs.Record.{line_text, printed_name, with_operands};
 
-use btor2::{BIT, MEMORY, MaybeSort, Name, Nid, WORD};
+use btor2::{MaybeSort, Name, Nid};
 use btor2_list::{
     ADD, AND, BAD, CONST, DIV, DIVU, EQ, EXT, INPUT, ITE, Line, MUL, NEXT, NOT, OR, READ, REM, SLL,
     SRL, STATE, SUB, ULT, WRITE,
@@ -63,20 +63,20 @@ fn put_known<'a>(
     let len = line.name.len;
     match kind {
         CONST => put_row(out, at, nid, k, sort, 1, line.imm, 0, 0),
-        READ => put_row(out, at, nid, k, WORD, 2, a.0, b.0, 0),
-        WRITE => put_row(out, at, nid, k, MEMORY, 3, a.0, b.0, c.0),
-        ADD => put_row(out, at, nid, k, WORD, 2, a.0, b.0, 0),
-        SUB => put_row(out, at, nid, k, WORD, 2, a.0, b.0, 0),
-        MUL => put_row(out, at, nid, k, WORD, 2, a.0, b.0, 0),
-        DIVU => put_row(out, at, nid, k, WORD, 2, a.0, b.0, 0),
-        DIV => put_row(out, at, nid, k, WORD, 2, a.0, b.0, 0),
-        REM => put_row(out, at, nid, k, WORD, 2, a.0, b.0, 0),
-        SLL => put_row(out, at, nid, k, WORD, 2, a.0, b.0, 0),
-        SRL => put_row(out, at, nid, k, WORD, 2, a.0, b.0, 0),
-        ULT => put_row(out, at, nid, k, BIT, 2, a.0, b.0, 0),
-        EXT => put_row(out, at, nid, k, WORD, 2, a.0, padding_from(sort), 0),
+        READ => put_row(out, at, nid, k, 2, 2, a.0, b.0, 0),
+        WRITE => put_row(out, at, nid, k, 3, 3, a.0, b.0, c.0),
+        ADD => put_row(out, at, nid, k, 2, 2, a.0, b.0, 0),
+        SUB => put_row(out, at, nid, k, 2, 2, a.0, b.0, 0),
+        MUL => put_row(out, at, nid, k, 2, 2, a.0, b.0, 0),
+        DIVU => put_row(out, at, nid, k, 2, 2, a.0, b.0, 0),
+        DIV => put_row(out, at, nid, k, 2, 2, a.0, b.0, 0),
+        REM => put_row(out, at, nid, k, 2, 2, a.0, b.0, 0),
+        SLL => put_row(out, at, nid, k, 2, 2, a.0, b.0, 0),
+        SRL => put_row(out, at, nid, k, 2, 2, a.0, b.0, 0),
+        ULT => put_row(out, at, nid, k, 1, 2, a.0, b.0, 0),
+        EXT => put_row(out, at, nid, k, 2, 2, a.0, padding(sort), 0),
         ITE => put_row(out, at, nid, k, sort, 3, a.0, b.0, c.0),
-        EQ => put_row(out, at, nid, k, BIT, 2, a.0, b.0, 0),
+        EQ => put_row(out, at, nid, k, 1, 2, a.0, b.0, 0),
         AND => put_row(out, at, nid, k, sort, 2, a.0, b.0, 0),
         OR => put_row(out, at, nid, k, sort, 2, a.0, b.0, 0),
         NOT => put_row(out, at, nid, k, sort, 1, a.0, 0, 0),
@@ -100,12 +100,12 @@ fn is_sort(number: u64) -> bool
     }
 }
 
-// The padding of a uext from the sort of this number.
-fn padding_from(number: u64) -> u64
-    ensures { (s : NodeType) → sort_numbered number ≡ Sort s → result ≡ padding s }
+// How many bits a value of a sort lacks to a Word.
+fn padding(from: u64) -> u64
+    ensures { (s : NodeType) → sort_numbered from ≡ Sort s → result ≡ 64 - width s }
 {
-    match btor2::sort_of(number) {
-        MaybeSort::Sort(s) => btor2::padding(s),
+    match btor2::sort_of(from) {
+        MaybeSort::Sort(s) => 64 - btor2::bitsize(s),
         MaybeSort::NoSort => 0,
     }
 }

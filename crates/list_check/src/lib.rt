@@ -1,4 +1,6 @@
 // The checks over a whole list of lines: refusal 11.
+#![tactic(auto)]
+
 mod operands;
 
 ghost use Rattle.std.specs.Prelude.{◌≡◌, true, false, cond, not, ◌&&◌, ◌||◌, eqb, ltb, [], ◌∷◌, ℕ, ◌+◌};
@@ -22,7 +24,7 @@ pub use operands::broken;
 const EXT_FROM_MEMORY: u64 = EXT * 32 + MEMORY;
 
 // What the check of a line finds: 11; or that it is well formed, and how long its name is where lines of its kind have one.
-#[derive(Drop)]
+#[derive(Clone, Copy)]
 pub enum Checked {
     Unformed,
     Unnamed,

@@ -10,8 +10,7 @@ use lib.Dec.{eqb, ltb, leb}
 use lib.ListN.{length, get_or, take, drop, length-append, length-take}
 use lib.Seq.{drop_at, take-append_seam}
 use Rattle.btor2.specs.declared.Name.{Name}
-use Rattle.btor2.specs.declared.NodeType.TheVariants.{Bit, Word, Memory}
-use Rattle.btor2.specs.Sort.{sort_number, padding}
+use Rattle.btor2.specs.Sort.{sort_number, width}
 use Rattle.btor2.specs.Op.{Bin, add, sub, mul, udiv, sdiv, urem, sll, srl, ult, Op, const, read, write, bin, uext, ite, eq, and, or, not, state, state_init, next, input, bad, unknown, map_op, bin_sort, identifiers}
 use Rattle.btor2_list.specs.declared.MaybeAddress.{MaybeAddress}
 use Rattle.btor2_list.specs.declared.MaybeAddress.TheVariants.{Address}
@@ -88,12 +87,12 @@ module _ (names : Name → List ℕ) (f : ℕ → ℕ) (nid : ℕ) (short : (m :
   line_most : (o : Op ℕ) → one_row o ≡ true → length (line_text names nid (map_op f o)) ≤ most_row
   unfolding line_text map_op
   line_most (const s n) e = omega (arith, row_most nid (ascii "constd") (sort_number s ∷ n ∷ []) false [])
-  line_most (read m a) e = omega (arith, row_most nid (ascii "read") (sort_number Word ∷ f m ∷ f a ∷ []) false [])
-  line_most (write m a v) e = omega (arith, row_most nid (ascii "write") (sort_number Memory ∷ f m ∷ f a ∷ f v ∷ []) false [])
+  line_most (read m a) e = omega (arith, row_most nid (ascii "read") (2 ∷ f m ∷ f a ∷ []) false [])
+  line_most (write m a v) e = omega (arith, row_most nid (ascii "write") (3 ∷ f m ∷ f a ∷ f v ∷ []) false [])
   line_most (bin o a b) e = omega (arith, row_most nid (ascii (bin_word o)) (sort_number (bin_sort o) ∷ f a ∷ f b ∷ []) false [], bin_word_lem o)
-  line_most (uext s a) e = omega (arith, row_most nid (ascii "uext") (sort_number Word ∷ f a ∷ padding s ∷ []) false [])
+  line_most (uext s a) e = omega (arith, row_most nid (ascii "uext") (2 ∷ f a ∷ (64 - width s) ∷ []) false [])
   line_most (ite s c a b) e = omega (arith, row_most nid (ascii "ite") (sort_number s ∷ f c ∷ f a ∷ f b ∷ []) false [])
-  line_most (eq a b) e = omega (arith, row_most nid (ascii "eq") (sort_number Bit ∷ f a ∷ f b ∷ []) false [])
+  line_most (eq a b) e = omega (arith, row_most nid (ascii "eq") (1 ∷ f a ∷ f b ∷ []) false [])
   line_most (and s a b) e = omega (arith, row_most nid (ascii "and") (sort_number s ∷ f a ∷ f b ∷ []) false [])
   line_most (or s a b) e = omega (arith, row_most nid (ascii "or") (sort_number s ∷ f a ∷ f b ∷ []) false [])
   line_most (not s a) e = omega (arith, row_most nid (ascii "not") (sort_number s ∷ f a ∷ []) false [])

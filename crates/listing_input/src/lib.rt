@@ -1,4 +1,6 @@
 // A line of input, gathered from the pieces that are read.
+#![tactic(auto)]
+
 mod line;
 
 ghost use Rattle.std.specs.Prelude.{◌≡◌, ◌<◌, length};
@@ -9,7 +11,7 @@ use line::up_to;
 pub use line::{Parsed, parse};
 
 // How many bytes the line has now, those that it had no room for among them; where in the piece to go on; and whether the line has ended.
-#[derive(Drop)]
+#[derive(Clone, Copy)]
 pub struct Gathered {
     pub held: usize,
     pub next: usize,

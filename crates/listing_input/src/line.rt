@@ -12,14 +12,14 @@ ghost use Rattle.listing_input.specs.Line.{immediate as Line·immediate};
 use riscv::{KINDS, MOST_LETTERS};
 
 // What a field is: a number, or not one.
-#[derive(Drop)]
+#[derive(Clone, Copy)]
 enum Number {
     Value(u64),
     NotOne,
 }
 
 // What a line is. A kind that there is none of has the number of kinds, and imm is the pattern of 64 bits.
-#[derive(Drop)]
+#[derive(Clone, Copy)]
 pub enum Parsed {
     Instruction {
         address: u64,

@@ -1,5 +1,7 @@
 // The listing, as a program runs it: reads an instruction a line, and writes the node lines, edges and dispatches that it is lowered to, or its refusal.
 // What reads and writes is here; lines.rt takes what was read, and is proved to give what listing_bytes defines.
+#![tactic(auto)]
+
 mod lines;
 
 ghost use Rattle.std.specs.Prelude.{◌≡◌, true, length};
@@ -37,7 +39,7 @@ const OUT: usize = 4096;
 const PIECE: usize = 4096;
 
 // What has been read, whether more is to be read, and whether all output was written.
-#[derive(Drop)]
+#[derive(Clone, Copy)]
 struct Run {
     reading: Reading,
     more: bool,

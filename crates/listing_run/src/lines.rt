@@ -11,7 +11,7 @@ use listing_input::gather;
 use listing_step::step;
 
 // What has been read, where in the piece to go on, and how many bytes of output were put.
-#[derive(Drop)]
+#[derive(Clone, Copy)]
 pub(crate) struct Taken {
     pub reading: Reading,
     pub next: usize,
@@ -19,7 +19,7 @@ pub(crate) struct Taken {
 }
 
 // What has been read, and how many bytes of output were put.
-#[derive(Drop)]
+#[derive(Clone, Copy)]
 pub(crate) struct Ended {
     pub reading: Reading,
     pub length: usize,

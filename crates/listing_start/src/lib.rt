@@ -1,4 +1,6 @@
 // The listing program's own start: its lines, and its state.
+#![tactic(auto)]
+
 ghost use Rattle.std.specs.Prelude.{◌≡◌, ◌<◌, get_or};
 ghost use Rattle.listing_start.specs.Start.{start_lines, start_line, start_in, start_state};
 

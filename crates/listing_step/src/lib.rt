@@ -1,4 +1,6 @@
 // One step of the listing: a line of input is parsed and lowered, and what comes of it put into an output.
+#![tactic(auto)]
+
 ghost use Rattle.std.specs.Prelude.{◌≡◌, ◌++◌, ◌-◌};
 ghost use Rattle.line_text.specs.Line.{nodes, run_text};
 ghost use Rattle.listing_start.specs.Start.{host_area, placed};
@@ -15,7 +17,7 @@ use riscv::Instruction;
 use state::{Counts, State};
 
 // The state after a line, and how many bytes its output has.
-#[derive(Drop)]
+#[derive(Clone, Copy)]
 pub struct Stepped {
     pub state: State,
     pub length: usize,

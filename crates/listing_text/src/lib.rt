@@ -1,4 +1,6 @@
 // The listing's remarks on dispatches and refusals as text; those on edges are in in_edges.rt.
+#![tactic(auto)]
+
 mod in_edges;
 
 ghost use Rattle.text.specs.Put.{Put};

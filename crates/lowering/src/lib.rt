@@ -1,5 +1,7 @@
 // One call lowers one instruction (unicorn's `translate_to_model`): what it gives. It is defined here, over a state (specs/Lowering) and over the
 // state's words (specs/Words, and many calls in one, specs/All); the code is lowering_calls, over the instruction's lines (lines.rt).
+#![tactic(auto)]
+
 mod lines;
 
 use btor2::NodeRef;
@@ -8,7 +10,7 @@ use riscv::Instruction;
 use state::State;
 
 // What a call asks: an instruction at an address, under a flag.
-#[derive(Drop)]
+#[derive(Clone, Copy)]
 pub struct LowerCall {
     pub instruction: Instruction,
     pub address: u64,
@@ -16,7 +18,7 @@ pub struct LowerCall {
 }
 
 // What a call gives: its refusal, 0 where there is none, and the state after it.
-#[derive(Drop)]
+#[derive(Clone, Copy)]
 pub struct Lowered {
     pub refusal: u64,
     pub state: State,

@@ -20,7 +20,7 @@ use riscv_rows::{has_bad, has_dispatch};
 use state::{BAD_COUNT, Counts, Reads, Room, counts_out, room_of};
 
 // What a call gives apart from the roles. Where it is refused the flows are those that were read.
-#[derive(Drop)]
+#[derive(Clone, Copy)]
 pub(crate) struct Apart {
     pub refusal: u64,
     pub tally: Tally,

@@ -1,5 +1,7 @@
 // The calls: one instruction over the state's words or over a state, and many in one. Each tests the roles itself; many test them once, since an
 // accepted call's roles fit again (crates/roles_kept).
+#![tactic(auto)]
+
 mod apart;
 
 ghost use Rattle.std.specs.Prelude.{◌≡◌, not, ◌+◌, ◌*◌, ◌≤◌, length, drop};
@@ -24,7 +26,7 @@ pub const CALL: usize = 7;
 pub const NO_FLAG: NodeRef = NodeRef(0xffff_ffff_ffff_ffff);
 
 // How many calls were accepted, and the refusal of the next one, 0 where there is none.
-#[derive(Drop)]
+#[derive(Clone, Copy)]
 pub struct Stopped {
     pub done: usize,
     pub refusal: u64,

@@ -9,6 +9,8 @@
 // Command 1 writes its lines as the twelve numbers of their records, a bad line's name after it, then edges, dispatches, bads, the tally and
 // the counts, and the places of the 40 flows; or its refusal. Places are those of the list: on the listing's start identifier 20 stands at 0.
 // tools/lowering_cases.py made the commands and what is to be written.
+#![tactic(auto)]
+
 use btor2::NodeRef;
 use cases::{
     Step, read_counts, read_decimal, read_record, read_role, show, show_counts, show_lines,

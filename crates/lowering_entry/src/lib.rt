@@ -1,5 +1,7 @@
 // The lowering with the in-edges in a lent slice of records. The core, over number slices, does the work: it puts the edges of one instruction
 // into words of its own, and they are appended to the records from there.
+#![tactic(auto)]
+
 ghost use Rattle.std.specs.Prelude.{◌≡◌, ◌+◌, ◌≤◌, ◌<◌, List, length};
 ghost use Rattle.lowering.specs.Lowering.{lent, answer, lowering};
 ghost use Rattle.edges.specs.InEdges.{edge_words};
@@ -12,7 +14,7 @@ use riscv::Instruction;
 use state::{Counts, State};
 
 // What a call gives, and the edges that it adds, at most two.
-#[derive(Drop)]
+#[derive(Clone, Copy)]
 struct LoweredWithEdges {
     lowered: Lowered,
     added: usize,

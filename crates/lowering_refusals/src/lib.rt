@@ -1,4 +1,6 @@
 // What an instruction needs of lent storage, and the refusals of a lowering but 9 and 13, whose tests are state's.
+#![tactic(auto)]
+
 ghost use Rattle.std.specs.Prelude.{◌≡◌, cond, not, ◌&&◌, eqb, ltb, length, ◌+◌};
 ghost use Rattle.lowering_refusals.specs.Refusal.{needs_of, needs as needsAt, room_out, tests_of_record};
 ghost use Rattle.btor2.specs.declared.NodeType.TheVariants.{Bit};
@@ -19,7 +21,7 @@ use riscv_rows::{class_of, has_bad, has_dispatch, line_count, needs_flag, zeros_
 use state::{Counts, Room};
 
 // The refusal of a record, 0 where there is none, what it needs, its kind's class, and which of its fields are zero.
-#[derive(Drop)]
+#[derive(Clone, Copy)]
 pub struct Weighed {
     pub refusal: u64,
     pub needs: Room,

@@ -1,9 +1,11 @@
 // What the models of the kinds read, set and give.
+#![tactic(auto)]
+
 use btor2::NodeRef;
 use builder::Tally;
 
 // The places that an instruction reads: its flag, the nodes of rs1 and rs2, and nodes of the start. No flow is among them.
-#[derive(Drop)]
+#[derive(Clone, Copy)]
 pub struct Operands {
     pub flag: NodeRef,
     pub rs1: NodeRef,
@@ -17,7 +19,7 @@ pub struct Operands {
 }
 
 // The flows besides those of registers and memory.
-#[derive(Drop)]
+#[derive(Clone, Copy)]
 pub struct Flows {
     pub counter: NodeRef,
     pub maximum: NodeRef,
@@ -30,7 +32,7 @@ pub struct Flows {
 }
 
 // What a model gives: nothing, a word for rd, a memory, or the conditions of a branch (taken, and not).
-#[derive(Drop)]
+#[derive(Clone, Copy)]
 pub enum Outcome {
     Nothing,
     Register(NodeRef),
@@ -38,7 +40,7 @@ pub enum Outcome {
     Branch(NodeRef, NodeRef),
 }
 
-#[derive(Drop)]
+#[derive(Clone, Copy)]
 pub struct Modeled {
     pub tally: Tally,
     pub flows: Flows,
@@ -46,7 +48,7 @@ pub struct Modeled {
 }
 
 // A read that counts: the flows that it sets, and the word.
-#[derive(Drop)]
+#[derive(Clone, Copy)]
 pub struct Counted {
     pub tally: Tally,
     pub counter: NodeRef,

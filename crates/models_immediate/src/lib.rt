@@ -1,4 +1,6 @@
 // The kinds that have a constant: Lui, Auipc and the links, and those with an immediate.
+#![tactic(auto)]
+
 mod additions;
 mod constants;
 mod immediates;

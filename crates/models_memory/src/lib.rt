@@ -1,4 +1,6 @@
 // Loads and stores: the address, the counted reads of the cells, and the lines of each kind.
+#![tactic(auto)]
+
 mod address;
 mod counted;
 mod loads;

@@ -1,4 +1,6 @@
 // The kinds on two registers, the branches and Ecall.
+#![tactic(auto)]
+
 mod control;
 mod divisions;
 mod products;

@@ -2,7 +2,7 @@
 use Prim.Native.Nat.{ℕ, ◌+◌, ◌≤◌, ◌<◌}
 use mathlib.Core.Path.{◌≡◌, refl, sym, ◌∙◌, ap}
 use mathlib.Core.Bool.{Bool, true, false, cond, not, ◌&&◌, ◌||◌, or-true, true≢false, false≢true}
-use mathlib.Core.List.{List, ◌∷◌, ◌++◌}
+use mathlib.Core.List.{List, [], ◌∷◌, ◌++◌}
 use native.Mathlib.Numerals.{add-one}
 use native.Mathlib.Omega.{arith}
 use borrow.Author.Tests.{lt-ltb, le-ltb, le-leb, lt-leb}
@@ -10,7 +10,6 @@ use lib.Dec.{leb, ltb, eqb}
 use lib.ListN.{length, drop, drop_of_length-le}
 use lib.Seq.{drop-cons}
 use Rattle.bitvec.proofs.Base.{by_le}
-use Rattle.btor2.specs.Sort.{last_sort}
 use Rattle.btor2.specs.Op.{has_init}
 use Rattle.btor2_list.specs.Record.{record_at}
 use Rattle.btor2_list.specs.Node.{Node, no_node, node_of}
@@ -23,7 +22,7 @@ use Rattle.nid_check.specs.Inside.{nid_out, rise_of}
 
 -- the identifiers after `last` break the rule
 abbrev pub out_from : ℕ → ℕ → List ℕ → Bool
-out_from next last ts = not (rising last ts) || (any reserved ts || (leb next last_sort || any (leb next) ts))
+out_from next last ts = not (rising last ts) || (any reserved ts || (leb next 17 || any (leb next) ts))
 
 below_not : (a b : ℕ) → ltb a b ≡ not (leb b a)
 below_not a b = by_le b a (λ h. rw (le-ltb a b h, le-leb b a h)) (λ h. rw (lt-ltb a b h, lt-leb b a h))
@@ -46,11 +45,11 @@ none_out false false false rest res low above e = refl
 module _ (next last t : ℕ) (ts : List ℕ) where
   nid_hit : nid_out next last t ≡ true → out_from next last (t ∷ ts) ≡ true
   unfolding rising
-  nid_hit e = rw (below_not last t) (some_out (leb t last) (reserved t) (leb next t) (rising t ts) (any reserved ts) (leb next last_sort) (any (leb next) ts) e)
+  nid_hit e = rw (below_not last t) (some_out (leb t last) (reserved t) (leb next t) (rising t ts) (any reserved ts) (leb next 17) (any (leb next) ts) e)
 
   nid_on : nid_out next last t ≡ false → out_from next last (t ∷ ts) ≡ out_from next t ts
   unfolding rising
-  nid_on e = rw (below_not last t) (none_out (leb t last) (reserved t) (leb next t) (rising t ts) (any reserved ts) (leb next last_sort) (any (leb next) ts) e)
+  nid_on e = rw (below_not last t) (none_out (leb t last) (reserved t) (leb next t) (rising t ts) (any reserved ts) (leb next 17) (any (leb next) ts) e)
 
 -- ---- one line
 
@@ -97,11 +96,11 @@ module _ (ws : List ℕ) (n next last i : ℕ) where
   unfolding taken
   rise_hit h e = rw (rest h) (line_hit next last (node_of (record_at ws i)) (taken (drop (i + 1) (view ws n))) e)
 
-  pub rise_end : n ≤ i → last_sort < next → out_from next last (taken (drop i (view ws n))) ≡ false
+  pub rise_end : n ≤ i → 17 < next → out_from next last (taken (drop i (view ws n))) ≡ false
   unfolding taken rising
   rise_end h l =
       let past : length (view ws n) ≤ i = rw (view-length ws n) h in
-      rw (drop_of_length-le (view ws n) past, lt-leb next last_sort l)
+      rw (drop_of_length-le (view ws n) past, lt-leb next 17 l)
 
-pub next_low : (next last : ℕ) (ts : List ℕ) → next ≤ last_sort → out_from next last ts ≡ true
-next_low next last ts h = rw (le-leb next last_sort h, or-true (any reserved ts)) (or-true (not (rising last ts)))
+pub next_low : (next last : ℕ) (ts : List ℕ) → next ≤ 17 → out_from next last ts ≡ true
+next_low next last ts h = rw (le-leb next 17 h, or-true (any reserved ts)) (or-true (not (rising last ts)))

@@ -1,8 +1,6 @@
 -- Refusal 10 (document 01, "Who can be refused, and with what"): "identifiers don't rise (two for a State with init), one taken is 0, 1, 2, 3
 -- or 11 to 17, or the next one isn't above 17 and all those taken".
-use Rattle.std.specs.Prelude.{ℕ, zero, suc, ◌+◌, Bool, true, not, ◌&&◌, ◌||◌, List, [], ◌∷◌, ◌++◌, leb, ltb}
-use Rattle.btor2.specs.declared.NodeType.TheVariants.{Memory, Input1Byte}
-use Rattle.btor2.specs.Sort.{sort_number, last_sort}
+use Rattle.std.specs.Prelude.{ℕ, zero, suc, ◌+◌, Bool, true, false, not, ◌&&◌, ◌||◌, List, [], ◌∷◌, ◌++◌, leb, ltb}
 use Rattle.btor2.specs.Op.{identifiers}
 use Rattle.btor2_list.specs.Node.{Node}
 use Rattle.btor2_list.specs.View.{view}
@@ -28,11 +26,11 @@ rising last (t ∷ ts) = ltb last t && rising t ts
 
 -- "0, 1, 2, 3 or 11 to 17"
 abbrev pub reserved : ℕ → Bool
-reserved t = leb t (sort_number Memory) || (leb (sort_number Input1Byte) t && leb t last_sort)
+reserved t = ltb t 4 || (leb 11 t && leb t 17)
 
 -- 10, of the identifiers taken and the next one. That the first is above 0 asks no more, since 0 is reserved.
 unfoldable pub nids_out : ℕ → List ℕ → Bool
-nids_out next ts = not (rising 0 ts) || (any reserved ts || (leb next last_sort || any (leb next) ts))
+nids_out next ts = not (rising 0 ts) || (any reserved ts || (leb next 17 || any (leb next) ts))
 
 -- of the first n lines of the lent words, or the words do not hold n lines
 abbrev pub nids_out_words : List ℕ → ℕ → ℕ → Bool

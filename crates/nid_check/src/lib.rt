@@ -1,4 +1,6 @@
 // Refusal 10: the identifiers of a start rise, none is one of a sort, and the next is above them all.
+#![tactic(auto)]
+
 ghost use Rattle.std.specs.Prelude.{◌≡◌, cond, ◌+◌, ◌<◌};
 ghost use Rattle.btor2_list.specs.Record.{holds, record_at};
 ghost use Rattle.btor2_list.specs.Node.{node_of};
@@ -6,11 +8,14 @@ ghost use Rattle.nid_check.specs.declared.Rise.TheVariants.{Out, To};
 ghost use Rattle.nid_check.specs.Identifiers.{reserved, nids_out_words};
 ghost use Rattle.nid_check.specs.Inside.{nid_out, rise_of};
 
-use btor2::{FIRST_INPUT, LAST_SORT, MEMORY, NodeRef};
+use btor2::NodeRef;
 use btor2_list::{Found, Line, capacity, get, nids_taken};
 
+// The last identifier that a sort is printed as.
+const LAST_SORT: u64 = 17;
+
 // How far the identifiers of one more line go, or that they break the rule.
-#[derive(Drop)]
+#[derive(Clone, Copy)]
 enum Rise {
     To(u64),
     Out,
@@ -89,5 +94,5 @@ fn nid_out(nid: u64, last: u64, next: u64) -> bool
 fn is_reserved(nid: u64) -> bool
     ensures { result ≡ reserved nid }
 {
-    (nid <= MEMORY) | ((FIRST_INPUT <= nid) & (nid <= LAST_SORT))
+    (nid < 4) | ((11 <= nid) & (nid <= LAST_SORT))
 }

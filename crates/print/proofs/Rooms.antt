@@ -15,11 +15,10 @@ use Rattle.text.proofs.Laws.{numeral-length}
 use Rattle.row_text.proofs.Split.{wider}
 use Rattle.btor2.specs.declared.Name.{Name}
 use Rattle.btor2.specs.declared.NodeType.{NodeType}
-use Rattle.btor2.specs.declared.NodeType.TheVariants.{Bit, Word, Memory}
+use Rattle.btor2.specs.declared.NodeType.TheVariants.{Bit, Word, Memory, Input1Byte, Input2Byte, Input3Byte, Input4Byte, Input5Byte, Input6Byte, Input7Byte}
 use Rattle.btor2.specs.declared.MaybeSort.{MaybeSort}
 use Rattle.btor2.specs.declared.MaybeSort.TheVariants.{Sort, NoSort}
-use Rattle.btor2.specs.Sort.{sort_number, sort_numbered, padding}
-use Rattle.btor2.proofs.Sort.{number_small, tabled}
+use Rattle.btor2.specs.Sort.{sort_number, sort_numbered, width}
 use Rattle.btor2.specs.Op.{Bin, add, sub, mul, udiv, sdiv, urem, sll, srl, ult, Op, const, read, write, bin, uext, ite, eq, and, or, not, state, state_init, next, input, bad, unknown, map_op, bin_sort}
 use Rattle.btor2_list.specs.declared.Line.{Line}
 use Rattle.btor2_list.specs.Record.{has_name, record_at, capacity}
@@ -47,11 +46,20 @@ ten x h = rw (← wider 9 10 x h) (numeral-length 10 10 x)
 two : (x : ℕ) → x < 100 → length (decimal_text x) ≤ 2
 two x h = rw (← wider 1 18 x h) (numeral-length 10 2 x)
 
-sort_two : (s : NodeType) → length (decimal_text (sort_number s)) ≤ 2
-sort_two s = two (sort_number s) (omega (arith, number_small s))
+sort_below : (s : NodeType) → sort_number s < 100
+sort_below Bit = omega arith
+sort_below Word = omega arith
+sort_below Memory = omega arith
+sort_below Input1Byte = omega arith
+sort_below Input2Byte = omega arith
+sort_below Input3Byte = omega arith
+sort_below Input4Byte = omega arith
+sort_below Input5Byte = omega arith
+sort_below Input6Byte = omega arith
+sort_below Input7Byte = omega arith
 
-padding_two : (s : NodeType) → length (decimal_text (padding s)) ≤ 2
-padding_two s = two (padding s) (omega (arith, (tabled s).extended))
+sort_two : (s : NodeType) → length (decimal_text (sort_number s)) ≤ 2
+sort_two s = two (sort_number s) (sort_below s)
 
 bin_word_lem : (o : Bin) → length (ascii (bin_word o)) ≤ 4
 bin_word_lem add = omega arith
@@ -98,17 +106,17 @@ module _ (names : Name → List ℕ) (f : ℕ → ℕ) (nid : ℕ) (small : (q :
   line_most (const s n) =
       omega (arith, row nid (ascii "constd") ((sort_number s) ∷ (n) ∷ []) false [], ten nid (omega arith), number (sort_number s) ((n) ∷ []), sort_two s, number (n) [], numeral-length 10 20 n)
   line_most (read m a) =
-      omega (arith, row nid (ascii "read") ((sort_number Word) ∷ (f m) ∷ (f a) ∷ []) false [], ten nid (omega arith), number (sort_number Word) ((f m) ∷ (f a) ∷ []), sort_two Word, number (f m) ((f a) ∷ []), ten (f m) (small m), number (f a) [], ten (f a) (small a))
+      omega (arith, row nid (ascii "read") ((2) ∷ (f m) ∷ (f a) ∷ []) false [], ten nid (omega arith), number (2) ((f m) ∷ (f a) ∷ []), two 2 (omega arith), number (f m) ((f a) ∷ []), ten (f m) (small m), number (f a) [], ten (f a) (small a))
   line_most (write m a v) =
-      omega (arith, row nid (ascii "write") ((sort_number Memory) ∷ (f m) ∷ (f a) ∷ (f v) ∷ []) false [], ten nid (omega arith), number (sort_number Memory) ((f m) ∷ (f a) ∷ (f v) ∷ []), sort_two Memory, number (f m) ((f a) ∷ (f v) ∷ []), ten (f m) (small m), number (f a) ((f v) ∷ []), ten (f a) (small a), number (f v) [], ten (f v) (small v))
+      omega (arith, row nid (ascii "write") ((3) ∷ (f m) ∷ (f a) ∷ (f v) ∷ []) false [], ten nid (omega arith), number (3) ((f m) ∷ (f a) ∷ (f v) ∷ []), two 3 (omega arith), number (f m) ((f a) ∷ (f v) ∷ []), ten (f m) (small m), number (f a) ((f v) ∷ []), ten (f a) (small a), number (f v) [], ten (f v) (small v))
   line_most (bin o a b) =
       omega (arith, row nid (ascii (bin_word o)) ((sort_number (bin_sort o)) ∷ (f a) ∷ (f b) ∷ []) false [], ten nid (omega arith), number (sort_number (bin_sort o)) ((f a) ∷ (f b) ∷ []), sort_two (bin_sort o), number (f a) ((f b) ∷ []), ten (f a) (small a), number (f b) [], ten (f b) (small b), bin_word_lem o)
   line_most (uext s a) =
-      omega (arith, row nid (ascii "uext") ((sort_number Word) ∷ (f a) ∷ (padding s) ∷ []) false [], ten nid (omega arith), number (sort_number Word) ((f a) ∷ (padding s) ∷ []), sort_two Word, number (f a) ((padding s) ∷ []), ten (f a) (small a), number (padding s) [], padding_two s)
+      omega (arith, row nid (ascii "uext") ((2) ∷ (f a) ∷ (64 - width s) ∷ []) false [], ten nid (omega arith), number (2) ((f a) ∷ (64 - width s) ∷ []), two 2 (omega arith), number (f a) ((64 - width s) ∷ []), ten (f a) (small a), number (64 - width s) [], two (64 - width s) (omega arith))
   line_most (ite s c a b) =
       omega (arith, row nid (ascii "ite") ((sort_number s) ∷ (f c) ∷ (f a) ∷ (f b) ∷ []) false [], ten nid (omega arith), number (sort_number s) ((f c) ∷ (f a) ∷ (f b) ∷ []), sort_two s, number (f c) ((f a) ∷ (f b) ∷ []), ten (f c) (small c), number (f a) ((f b) ∷ []), ten (f a) (small a), number (f b) [], ten (f b) (small b))
   line_most (eq a b) =
-      omega (arith, row nid (ascii "eq") ((sort_number Bit) ∷ (f a) ∷ (f b) ∷ []) false [], ten nid (omega arith), number (sort_number Bit) ((f a) ∷ (f b) ∷ []), sort_two Bit, number (f a) ((f b) ∷ []), ten (f a) (small a), number (f b) [], ten (f b) (small b))
+      omega (arith, row nid (ascii "eq") ((1) ∷ (f a) ∷ (f b) ∷ []) false [], ten nid (omega arith), number (1) ((f a) ∷ (f b) ∷ []), two 1 (omega arith), number (f a) ((f b) ∷ []), ten (f a) (small a), number (f b) [], ten (f b) (small b))
   line_most (and s a b) =
       omega (arith, row nid (ascii "and") ((sort_number s) ∷ (f a) ∷ (f b) ∷ []) false [], ten nid (omega arith), number (sort_number s) ((f a) ∷ (f b) ∷ []), sort_two s, number (f a) ((f b) ∷ []), ten (f a) (small a), number (f b) [], ten (f b) (small b))
   line_most (or s a b) =

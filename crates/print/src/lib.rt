@@ -1,4 +1,6 @@
 // Prints a run of the list's lines into an output, or refuses.
+#![tactic(auto)]
+
 ghost use Rattle.std.specs.Prelude.{◌≡◌, true, ◌+◌, ◌-◌, ◌^◌, ◌<◌, ◌≤◌, min, ltb, length};
 ghost use Rattle.btor2_list.specs.Record.{capacity};
 ghost use Rattle.line_text.specs.Line.{nodes, run_text};
@@ -18,7 +20,7 @@ const NAMED_ROOM: usize = 10;
 const LAST: usize = 18446744073709551615;
 
 // What printing answers: the number of its refusal, or how many bytes it wrote.
-#[derive(Drop)]
+#[derive(Clone, Copy)]
 pub enum Printed {
     Refused(u64),
     Written(usize),

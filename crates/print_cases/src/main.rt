@@ -3,6 +3,8 @@
 //   2 LINES FROM COUNT ROOM                                          prints a run into an output of ROOM bytes, all full stops before
 // Command 2 writes the length and the text, or the refusal, and then how many full stops are left after the text.
 // tools/print_cases.py made the commands and what is to be written; the text is what the unchanged Rust prints.
+#![tactic(auto)]
+
 use cases::{read_decimal, read_record, show};
 use libc::{STDIN_FILENO, STDOUT_FILENO};
 use print::Printed;

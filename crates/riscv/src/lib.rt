@@ -1,4 +1,6 @@
 // RV64 instructions as they come in: the numbers of the kinds, the record, and what the definitions and the code say of a kind.
+#![tactic(auto)]
+
 // The registers are x0 to x31.
 pub const LAST_REGISTER: u64 = 31;
 
@@ -106,7 +108,7 @@ pub const JALR: u64 = 48;
 pub const ECALL: u64 = 49;
 
 // An instruction. `imm` is the 64-bit two's complement word of the immediate; for U-format it is the field of 20 bits.
-#[derive(Drop)]
+#[derive(Clone, Copy)]
 pub struct Instruction {
     pub kind: u64,
     pub rd: u64,
@@ -116,7 +118,7 @@ pub struct Instruction {
 }
 
 // Which of an instruction's fields are zero: imm is 0, rd is x0, rs1 is x0.
-#[derive(Drop)]
+#[derive(Clone, Copy)]
 pub struct Zeros {
     pub imm: bool,
     pub rd: bool,
@@ -124,7 +126,7 @@ pub struct Zeros {
 }
 
 // The manual's instruction formats. Of Ecall no field is used.
-#[derive(Drop)]
+#[derive(Clone, Copy)]
 pub enum Format {
     R,
     I,
@@ -136,7 +138,7 @@ pub enum Format {
 }
 
 // Kinds by what they do besides their lines. Access: loads and stores. Addi, Jal, Jalr and Ecall are each a class of their own.
-#[derive(Drop)]
+#[derive(Clone, Copy)]
 pub enum Class {
     Plain,
     Access,

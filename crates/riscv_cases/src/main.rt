@@ -1,5 +1,7 @@
 // Runs the instruction check on the records of standard input, a line each: kind, rd, rs1, rs2 and imm. Writes each record with its
 // refusal, 0 where there is none. tools/riscv_cases.py made the records and what is to be written.
+#![tactic(auto)]
+
 use cases::{read_decimal, show};
 use libc::STDIN_FILENO;
 use riscv::Instruction;

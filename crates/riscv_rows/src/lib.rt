@@ -1,4 +1,6 @@
 // What is told of an instruction by its kind's row: the refusals 1 to 6, the lines that it appends, whether it needs a flag, and its constant.
+#![tactic(auto)]
+
 mod constant;
 
 ghost use Rattle.std.specs.Prelude.{◌≡◌, ◌+◌, ◌≤◌, not, ◌&&◌, ◌||◌, if◌then◌else◌, ◌==◌, nat_le, nat_lt};
@@ -20,7 +22,7 @@ use riscv::{
 
 // What is said of a kind: its name in one word (its bytes, the first lowest, and a 1 above them), its format, its class, and how many lines
 // it appends where rd and imm are not 0, those of an address apart.
-#[derive(Drop)]
+#[derive(Clone, Copy)]
 struct CodedRow(u64, Format, Class, usize);
 
 // The row of a kind. What is no other kind is Ecall.

@@ -3,16 +3,16 @@ use Prim.Native.Nat.{ℕ, ◌+◌, ◌≤◌, ◌<◌}
 use native.Mathlib.Omega.{arith}
 use mathlib.Core.Path.{◌≡◌, refl, sym, ◌∙◌, ap, subst}
 use mathlib.Core.List.{List, [], ◌∷◌, ◌++◌, map}
-use lib.Dec.{T, eqb, ltb, eqb_refl, eqb→eq, ltb→lt}
+use lib.Dec.{T, eqb, eqb_refl, eqb→eq, lit<}
 use lib.ListN.{length, get_or, length-map, get_or-map}
 use Rattle.bitvec.proofs.Base.{by_le}
 use Rattle.btor2.specs.declared.NodeType.{NodeType}
+use Rattle.btor2.specs.declared.NodeType.TheVariants.{Bit, Word, Memory, Input1Byte, Input2Byte, Input3Byte, Input4Byte, Input5Byte, Input6Byte, Input7Byte}
 use Rattle.btor2.specs.declared.MaybeSort.{MaybeSort}
 use Rattle.btor2.specs.declared.MaybeSort.TheVariants.{Sort, NoSort}
 use Rattle.btor2.specs.Sort.{sort_number, sort_or_none}
 use Rattle.btor2.specs.Op.{Op, carried, identifiers}
 use Rattle.btor2.specs.SortRule.{has_sort}
-use Rattle.btor2.proofs.Sort.{by_sort}
 use Rattle.btor2.proofs.LineIs.{line_is}
 use Rattle.btor2_list.specs.declared.MaybeAddress.{MaybeAddress}
 use Rattle.btor2_list.specs.Record.{words_for}
@@ -43,7 +43,16 @@ map-append (x ∷ l) m = ap (λ r. x.op ∷ r) (map-append l m)
 -- ---- a lookup
 
 positive : (s : NodeType) → 0 < sort_number s
-positive s = ltb→lt _ _ (by_sort (λ t. ltb 0 (sort_number t)) tt s)
+positive Bit = lit< tt
+positive Word = lit< tt
+positive Memory = lit< tt
+positive Input1Byte = lit< tt
+positive Input2Byte = lit< tt
+positive Input3Byte = lit< tt
+positive Input4Byte = lit< tt
+positive Input5Byte = lit< tt
+positive Input6Byte = lit< tt
+positive Input7Byte = lit< tt
 
 seen_is : (m : MaybeSort) (s : NodeType) → sort_or_none m ≡ sort_number s → T (has_sort s m)
 seen_is (Sort t) s e = subst (λ (k : ℕ). T (eqb (sort_number s) k)) (sym e) (eqb_refl (sort_number s))

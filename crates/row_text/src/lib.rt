@@ -1,5 +1,7 @@
 // Rows of node lines as text: a row is an identifier, a word, some numbers and perhaps a name. Where an output has room for the longest row
 // without a name, the row is stored there with one test; else it is put into an array of its own, and from there.
+#![tactic(auto)]
+
 mod digits;
 mod words;
 

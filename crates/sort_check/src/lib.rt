@@ -1,5 +1,7 @@
 // Refusal 12: every line meets the sort rule. What a line is to a later one depends on its own record alone, so each operand is looked up once.
-ghost use Rattle.std.specs.Prelude.{◌≡◌, cond, true, ◌&&◌, ◌^◌, ◌≤◌, ltb};
+#![tactic(auto)]
+
+ghost use Rattle.std.specs.Prelude.{◌≡◌, cond, true, ◌&&◌};
 ghost use Rattle.std.proofs.Math.Bool as B;
 ghost use Rattle.btor2.specs.Op as O;
 ghost use Rattle.btor2.specs.Op.{map_op};
@@ -11,7 +13,7 @@ ghost use Rattle.btor2_list.specs.Operator.{op_from};
 ghost use Rattle.sort_check.specs.Broken.{sort_broken_words};
 ghost use Rattle.sort_check.specs.Marks.{mark_at};
 
-use btor2::{MaybeSort, NodeRef, NodeType, WORD_BITS, bitsize, get_sort};
+use btor2::{MaybeSort, NodeRef, NodeType, get_sort};
 use btor2_list::{Found, Line, LineOperator, capacity, get, look, operator_of};
 
 // 12: some line breaks the sort rule. True where the words do not hold as many lines.
@@ -68,18 +70,18 @@ pub fn meets_rule(list: &[u64], i: usize, o: LineOperator) -> bool
 fn const_fits(s: NodeType, n: u64) -> bool
     ensures { result ≡ rule (O.const s n) }
 {
-    !same(s, NodeType::Memory) & below_power(n, bitsize(s))
-}
-
-// Whether a number has no more than this many bits.
-fn below_power(n: u64, bits: u64) -> bool
-    requires { bits ≤ 64 }
-    ensures { result ≡ ltb n (2 ^ bits) }
-{
-    if bits < WORD_BITS {
-        return n < 1 << bits;
+    match s {
+        NodeType::Bit => n < 2,
+        NodeType::Word => true,
+        NodeType::Memory => false,
+        NodeType::Input1Byte => n < 256,
+        NodeType::Input2Byte => n < 65_536,
+        NodeType::Input3Byte => n < 16_777_216,
+        NodeType::Input4Byte => n < 4_294_967_296,
+        NodeType::Input5Byte => n < 1_099_511_627_776,
+        NodeType::Input6Byte => n < 281_474_976_710_656,
+        NodeType::Input7Byte => n < 72_057_594_037_927_936,
     }
-    true
 }
 
 // "reads and writes on a Memory with Word addresses and values"

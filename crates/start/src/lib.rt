@@ -1,4 +1,6 @@
 // The check of a list of lines, which is refused with 9 to 12, and of a start: whoever prepares it is refused with 9 to 13.
+#![tactic(auto)]
+
 ghost use Rattle.std.specs.Prelude.{◌≡◌, length};
 ghost use Rattle.state.specs.Room.{room_of};
 ghost use Rattle.start.specs.Start.{list_refusal, start_refusal};

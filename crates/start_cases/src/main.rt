@@ -4,6 +4,8 @@
 //   3 ROLE PLACE                                                     sets a role
 //   4 WORDS HOST NAMES EDGES DISPATCHES BADS                         lends as much of each list and area, and checks the start
 // What a command sets stays for those after it. tools/start_cases.py made the commands and what is to be written.
+#![tactic(auto)]
+
 use btor2::NodeRef;
 use builder::Tally;
 use cases::{Step, read_counts, read_decimal, read_record, read_role};

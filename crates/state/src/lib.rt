@@ -1,5 +1,7 @@
 // What passes from call to call, by value and as words: what a call reads of the words, and what it puts there. The roles have their names in
 // roles.rt, roles_check.rt tests that they fit, and room.rt that the counts do.
+#![tactic(auto)]
+
 mod roles;
 mod roles_check;
 mod room;
@@ -20,7 +22,7 @@ pub use roles_check::{roles_out, value_sort};
 pub use room::{BAD_COUNT, Room, counts_out, room_of};
 
 // How much of each lent list and of our name area is in use, the list of lines apart.
-#[derive(Drop)]
+#[derive(Clone, Copy)]
 pub struct Counts {
     pub names: usize,
     pub edges: usize,
@@ -29,7 +31,7 @@ pub struct Counts {
 }
 
 // What passes from call to call: the tally, the counts, and the roles.
-#[derive(Drop)]
+#[derive(Clone, Copy)]
 pub struct State {
     pub tally: Tally,
     pub counts: Counts,

@@ -44,7 +44,7 @@ pub(crate) const MULTIPLICATION_FLOW: usize = 77;
 pub(crate) const ECALL_FLOW: usize = 78;
 
 // What an instruction reads of the roles.
-#[derive(Drop)]
+#[derive(Clone, Copy)]
 pub struct Reads {
     pub operands: Operands,
     pub flows: Flows,

@@ -10,7 +10,7 @@ use builder::Tally;
 pub const BAD_COUNT: u64 = 9;
 
 // How much lent storage holds, or an instruction needs: lines, bytes of our name area, in-edges, dispatches, bads.
-#[derive(Drop)]
+#[derive(Clone, Copy)]
 pub struct Room {
     pub lines: usize,
     pub names: usize,

@@ -1,5 +1,7 @@
 // Pieces of text put into an output. Each is total: what lies past the output's end is not stored, and the place after the piece is answered
 // all the same, capped at the largest number.
+#![tactic(auto)]
+
 ghost use Rattle.std.specs.Prelude.{◌≡◌, [], ◌∷◌, ◌+◌, ◌-◌, ◌^◌, ◌<◌, ◌≤◌, min, length};
 ghost use Rattle.text.specs.Numeral.{glyph, numeral, decimal_text, hex_text};
 ghost use Rattle.text.specs.Put.{Put};

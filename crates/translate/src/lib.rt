@@ -1,5 +1,7 @@
 // One instruction's lines: those of its kind's shape, the line of its flow, and Jalr's bad line (the first `match` of unicorn's
 // `translate_to_model`).
+#![tactic(auto)]
+
 ghost use Rattle.riscv.specs.Kind.{kind_at};
 ghost use Rattle.models.specs.Model.{reg_flow_ite, memory_flow_ite, settle, unimplemented, translate};
 ghost use Rattle.models.specs.Code.{operands_of, flows_of, outcome_of, modeled_of};
@@ -20,7 +22,7 @@ use riscv_rows::{class_of, has_bad};
 
 // The shapes that a kind's lines have, each with what its kinds differ in: an operator, or for a load how many bits of a word are above those
 // that are loaded and whether these are signed, or for a store ones at the bits that are stored.
-#[derive(Drop)]
+#[derive(Clone, Copy)]
 enum Shape {
     Constant,
     Link,

@@ -5,7 +5,6 @@ use native.Mathlib.Omega.{arith}
 use borrow.Author.Rules.{rules}
 use borrow.Author.Tests.{lt-ltb, le-ltb}
 use lib.ListN.{length, drop}
-use Rattle.btor2.specs.Sort.{last_sort}
 use Rattle.btor2_list.specs.Record.{record_at, capacity}
 use Rattle.btor2_list.specs.Node.{node_of}
 use Rattle.btor2_list.specs.View.{view}
@@ -17,7 +16,7 @@ use Rattle.nid_check.proofs.nids_out.Tie as tie
 
 abbrev invariant-loop : tie.invariant-loop
 invariant-loop list lines next last₀ i₀ last i =
-    (lines ≤ capacity (length list)) × (last_sort < next) × (i ≤ lines) × (out_from next last (taken (drop i (view list lines))) ≡ out_from next 0 (taken (view list lines)))
+    (lines ≤ capacity (length list)) × (17 < next) × (i ≤ lines) × (out_from next last (taken (drop i (view list lines))) ≡ out_from next 0 (taken (view list lines)))
 
 abbrev decreases-loop : tie.decreases-loop
 decreases-loop list lines next last₀ i₀ last i = lines - i

@@ -1,11 +1,10 @@
 -- Each kind's clause; past the last kind there is no text. Assumes nothing.
 use Rattle.std.proofs.Common.{arith, rules}
 use Rattle.text.proofs.Laws.{nothing, put_as}
-use Rattle.btor2.proofs.Sort.{number_of}
 use Rattle.btor2_list.specs.Node.{op_of}
 use Rattle.btor2_list.proofs.NoKind.{no_kind}
 use Rattle.line_text.specs.Record.{line_text, printed_name, with_operands}
-use Rattle.line_text.proofs.KnownKinds.{state_text}
+use Rattle.line_text.proofs.KnownKinds.{number_of, state_text}
 use Rattle.line_text.proofs.record.put_known.Statement.{statement}
 use Rattle.line_text.proofs.record.put_known.Tie as tie
 
@@ -70,7 +69,7 @@ returns-13 c =
     let m = p.before.before in
     let s = m.before.before.before.before in
     let sort = s.requires (rw m.match.keys13) in
-    put_as q.put-row13.ensures (rw (m.match.keys13, sort.1, p.padding-from.ensures sort.0 sort.1))
+    put_as q.put-row13.ensures (rw (m.match.keys13, sort.1, p.padding.ensures sort.0 sort.1))
 
 returns-14 : tie.Need-returns-14
 unfolding op_of line_text
