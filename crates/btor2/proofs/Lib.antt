@@ -5,3 +5,4 @@ pub mod LineIs
 pub mod SortRule
 pub mod Value
 pub mod Range
+pub mod SortTable

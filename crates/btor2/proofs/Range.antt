@@ -186,7 +186,7 @@ fit_walk : (env : Env) {js : List Judged} {vs : List Value} → AllFit js vs →
 unfolding walk
 fit_walk env l [] h = l
 fit_walk env {js} {vs} l (o ∷ xs) h =
-    fit_walk env
+    fit_walk env {js = js ++ (judge (length js) (map_op (λ p. get_or js p no_line) o) ∷ [])} {vs = vs ++ (eval_op env (length vs) (map_op (λ p. get_or vs p (number 0)) o) ∷ [])}
     (behind l (judge (length js) (map_op (λ p. get_or js p no_line) o)) (eval_op env (length vs) (map_op (λ p. get_or vs p (number 0)) o))
     (unfold Fit judge in op_fits env (length vs) (λ p. get_or js p no_line) (λ p. get_or vs p (number 0)) (fit_at l) o (right_next js o xs h)))
     xs h

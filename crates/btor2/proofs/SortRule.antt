@@ -27,10 +27,10 @@ behind (also h l) o j e = also h (behind l o j e)
 
 own_walk : {os : List (Op ℕ)} {js : List Judged} → Own os js → (xs : List (Op ℕ)) → Own (os ++ xs) (walk Judged no_line judge js xs)
 unfolding walk judge
-own_walk {os} {js} l [] = rw (mathlib.Core.List.append-nil os) l
-own_walk {os} {js} l (o ∷ xs) =
+own_walk {os = os} {js = js} l [] = rw (mathlib.Core.List.append-nil os) l
+own_walk {os = os} {js = js} l (o ∷ xs) =
     rw (append_assoc os (o ∷ []) xs)
-    at (own_walk (behind l o (judge (length js) (map_op (λ p. get_or js p no_line) o)) (mark_map (λ p. get_or js p no_line) o)) xs)
+    at (own_walk {os = os ++ (o ∷ [])} {js = js ++ (judge (length js) (map_op (λ p. get_or js p no_line) o) ∷ [])} (behind l o (judge (length js) (map_op (λ p. get_or js p no_line) o)) (mark_map (λ p. get_or js p no_line) o)) xs)
 
 own_at : {os : List (Op ℕ)} {js : List Judged} → Own os js → (p : ℕ) → (get_or js p no_line).mark ≡ mark_of (get_or os p unknown)
 unfolding carried is_state_op

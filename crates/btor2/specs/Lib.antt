@@ -3,3 +3,4 @@ pub mod Op
 pub mod Walk
 pub mod SortRule
 pub mod Value
+pub mod SortTable

@@ -3,6 +3,7 @@
 
 ghost use Rattle.std.specs.Prelude.{◌≡◌};
 ghost use Rattle.btor2.specs.Sort.{sort_number, sort_numbered, width};
+ghost use Rattle.btor2.specs.SortTable.{padding};
 
 // The identifier that a line is printed under. A State with an init takes two, so identifiers and places drift apart.
 #[derive(Clone, Copy)]
@@ -100,5 +101,23 @@ pub fn bitsize(sort: NodeType) -> u64
         NodeType::Input5Byte => 40,
         NodeType::Input6Byte => 48,
         NodeType::Input7Byte => 56,
+    }
+}
+
+// By how many bits `uext` extends a value of a sort to a Word. None from Memory is printed.
+pub fn padding(from: NodeType) -> u64
+    ensures { result ≡ padding from }
+{
+    match from {
+        NodeType::Bit => 63,
+        NodeType::Word => 0,
+        NodeType::Memory => 64,
+        NodeType::Input1Byte => 56,
+        NodeType::Input2Byte => 48,
+        NodeType::Input3Byte => 40,
+        NodeType::Input4Byte => 32,
+        NodeType::Input5Byte => 24,
+        NodeType::Input6Byte => 16,
+        NodeType::Input7Byte => 8,
     }
 }

@@ -1,7 +1,7 @@
 -- The lines of a join, counted. Assumes nothing.
 use Prim.Native.Nat.{ℕ, zero, suc, ◌+◌, ◌-◌, ◌*◌, ◌≤◌, ◌<◌, min}
 use mathlib.Core.Path.{◌≡◌, refl, sym, ap, ap₂, ◌∙◌}
-use mathlib.Core.Bool.{Bool, true, false, cond, ◌&&◌, ◌||◌, and_false, or_assoc}
+use mathlib.Core.Bool.{Bool, true, false, cond, ◌&&◌, ◌||◌, and-false, or_assoc}
 use mathlib.Core.List.{List, [], ◌∷◌, ◌++◌}
 use native.Mathlib.Nat.{add-zero, zero-add}
 use native.Mathlib.Omega.{arith}
@@ -87,7 +87,7 @@ module _ (n z : ℕ) (below : z < n) (b : Bits ℕ) (is : (p : ℕ) → b.is_zer
       go false = record { count = refl; result = fresh k }
 
   any_new : (k j flow : ℕ) → Grows n z k (control_flow_from_any b (n + j) flow) (cond (eqb flow z) 0 1) false
-  any_new k j flow = rw (fresh j, and_false) at (any k (n + j) flow)
+  any_new k j flow = rw (fresh j, and-false) at (any k (n + j) flow)
 
   from_branch : (k flag condition flow : ℕ) → Grows n z k (control_flow_from_branch b flag condition flow) (1 + cond (eqb flow z) 0 1) false
   unfolding ◌>>=◌ lines_of result_of control_flow_from_branch

@@ -5,7 +5,7 @@ use native.Mathlib.Nat.{add-zero}
 use mathlib.Core.Path.{◌≡◌, refl, sym, ◌∙◌, ap, subst}
 use mathlib.Core.Bool.{false, ◌||◌}
 use mathlib.Core.List.{List, [], ◌∷◌, ◌++◌, map}
-use borrow.Author.Tests.{ltb-false, eqb-true, eqb-false, not_false, eq-eqb}
+use borrow.Author.Tests.{ltb-false, eqb-true, eqb-false, not-false, eq-eqb}
 use lib.Dec.{T, eqb, ltb}
 use lib.ListN.{length, get_or, drop}
 use lib.Seq.{length-sets}
@@ -165,13 +165,13 @@ module _ (l : JoinLent) (h : JoinHeld) (g : JoinInput) (sorted : T (meets_sort_r
   -- ---- what it refers to
 
   is_bit : (p : ℕ) → bit_out l.list n p ≡ false → T (line_is B1 xs p)
-  is_bit p o = look_is l.list n (held l h g e) p B1 (eqb-true _ _ (not_false _ o))
+  is_bit p o = look_is l.list n (held l h g e) p B1 (eqb-true _ _ (not-false _ o))
 
   is_word : (p : ℕ) → word_out l.list n p ≡ false → T (line_is W xs p)
-  is_word p o = look_is l.list n (held l h g e) p W (eqb-true _ _ (not_false _ o))
+  is_word p o = look_is l.list n (held l h g e) p W (eqb-true _ _ (not-false _ o))
 
   fit : Fit xs h.state.roles
-  fit = fit_given l.list n h.state.roles (held l h g e) given (subst T (sym (not_false (roles_fit l.list n 0 h.state.roles) (its l h g e).roles)) tt)
+  fit = fit_given l.list n h.state.roles (held l h g e) given (subst T (sym (not-false (roles_fit l.list n 0 h.state.roles) (its l h g e).roles)) tt)
 
   -- and so they do on a longer list
   fit_after : (ys more : List (Op ℕ)) → ys ≡ xs ++ more → Fit ys h.state.roles

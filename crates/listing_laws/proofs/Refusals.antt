@@ -4,7 +4,7 @@ use mathlib.Core.Path.{◌≡◌, refl, sym, ◌∙◌, ap}
 use mathlib.Core.Bool.{Bool, true, false, ◌&&◌}
 use mathlib.Core.List.{List, [], ◌∷◌}
 use native.Mathlib.Omega.{arith}
-use borrow.Author.Tests.{le-ltb, eqb-true, eqb-false, not_false}
+use borrow.Author.Tests.{le-ltb, eqb-true, eqb-false, not-false}
 use lib.Dec.{eqb}
 use lib.ListN.{length, get_or, replicate, get_or-append}
 use Rattle.btor2.specs.declared.NodeRef.{NodeRef}
@@ -74,7 +74,7 @@ start_sound =
       begun = omega arith;
       nids = refl;
       size = given;
-      roles = not_false _ (roles_put ws room);
+      roles = not-false _ (roles_put ws room);
       bit =
           ap value_sort (look_line (start_in ws) start_lines (held start_lent start_state start_kept) flag.0 nowhere (omega arith))
           ∙ ap (λ (v : List Node). value_sort (seen (get_or v flag.0 nowhere))) (lines_put ws room) ∙ flag_line;

@@ -1,7 +1,7 @@
 -- The sort rule over the lines of the words is that of each record, its operands' marks being those of earlier records. Assumes nothing.
 use Prim.Native.Nat.{ℕ, zero, suc, ◌≤◌, ◌<◌}
 use mathlib.Core.Path.{◌≡◌, refl, sym, ◌∙◌, ap, fun_ext}
-use mathlib.Core.Bool.{Bool, true, false, ◌&&◌, ◌||◌, and_true, and_assoc}
+use mathlib.Core.Bool.{Bool, true, false, ◌&&◌, ◌||◌, and-true, and_assoc}
 use mathlib.Core.Bool as B
 use mathlib.Core.List.{List, [], ◌∷◌, ◌++◌, map-append}
 use native.Mathlib.Omega.{arith}
@@ -39,7 +39,7 @@ meets_behind xs o =
     ap all_right (walk-append Judged no_line judge [] xs (o ∷ []))
     ∙ right-append (judged xs) _
     ∙ ap (λ (b : Bool). all_right (judged xs) && b)
-    (and_true _ ∙ ap rule (map_op-map_op (λ (j : Judged). j.mark) (λ q. get_or (judged xs) q no_line) o ∙ ap (λ (f : ℕ → Mark). map_op f o) (fun_ext (mark_at_lem xs))))
+    (and-true _ ∙ ap rule (map_op-map_op (λ (j : Judged). j.mark) (λ q. get_or (judged xs) q no_line) o ∙ ap (λ (f : ℕ → Mark). map_op f o) (fun_ext (mark_at_lem xs))))
 
 -- ---- the lines of the words
 

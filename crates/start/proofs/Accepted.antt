@@ -4,7 +4,7 @@ use mathlib.Core.Path.{◌≡◌, refl}
 use mathlib.Core.Bool.{Bool, true, false, not}
 use mathlib.Core.List.{List, [], ◌∷◌, ◌++◌}
 use native.Mathlib.Omega.{arith}
-use borrow.Author.Tests.{not_false}
+use borrow.Author.Tests.{not-false}
 use lib.ListN.{length}
 use Rattle.btor2.specs.SortRule.{meets_sort_rule}
 use Rattle.btor2_list.specs.Limits.{most_start_nid, tally_out}
@@ -34,7 +34,7 @@ lines_accepted : (lines : List Node) (next host ours : ℕ) (ts : Tests)
     → first ((nids_out next (taken lines), 10) ∷ (unformed host ours (ops lines), 11) ∷ (not (meets_sort_rule (ops lines)), 12) ∷ ts) ≡ 0 → LinesAccepted lines next host ours × (first ts ≡ 0)
 lines_accepted lines next host ours ts e =
     let t = each (nids_out next (taken lines)) (unformed host ours (ops lines)) (not (meets_sort_rule (ops lines))) e in
-    (record { nids = t.0; formed = t.1; sorts = not_false _ t.2 }, t.3)
+    (record { nids = t.0; formed = t.1; sorts = not-false _ t.2 }, t.3)
   where
     each : (a b c : Bool) → first ((a, 10) ∷ (b, 11) ∷ (c, 12) ∷ ts) ≡ 0 → (a ≡ false) × (b ≡ false) × (c ≡ false) × (first ts ≡ 0)
     each true b c e = absurd (omega (arith, e))
@@ -70,5 +70,5 @@ module _ (ws : List ℕ) (host : ℕ) (room : Room) (st : State) (e : start_refu
       record {
         counts = within most_start_nid room st.tally st.counts p9.0;
         lines = p12.0;
-        roles = not_false _ (passes (not (roles_fit ws n 0 st.roles)) 13 [] (λ z. omega arith) p12.1).0;
+        roles = not-false _ (passes (not (roles_fit ws n 0 st.roles)) 13 [] (λ z. omega arith) p12.1).0;
       }

@@ -5,7 +5,7 @@ use mathlib.Core.Bool.{true, false, not, ◌||◌}
 use mathlib.Core.List.{List}
 use native.Mathlib.Omega.{arith}
 use borrow.Author.Rules.{rules}
-use borrow.Author.Tests.{not_false}
+use borrow.Author.Tests.{not-false}
 use lib.ListN.{length, replicate, length-replicate}
 use Rattle.builder.proofs.Gives.{free}
 use Rattle.join.specs.Refusal.{JoinLent, join_lent, JoinInput, join_input, join_counts_out, flags_out, join_room_out, zero_in}
@@ -81,7 +81,7 @@ zero_in : (c : tie.After-zero-bit) → let s = begun4 c.before in zero_in s.args
 zero_in c =
     let s = begun4 c.before in
     let roles = past13 (past15 c.before) in
-    zero_below s.args.list.now s.args.h.state.tally.lines s.args.h.state.roles (omega (arith, c.zero_bit.ensures.1)) (not_false _ (sym roles.before.roles-out.ensures ∙ roles.if2.left))
+    zero_below s.args.list.now s.args.h.state.tally.lines s.args.h.state.roles (omega (arith, c.zero_bit.ensures.1)) (not-false _ (sym roles.before.roles-out.ensures ∙ roles.if2.left))
 
 -- what is in use is within its storage: of any areas of these lengths
 held : (c : tie.Else1) → let s = begun1 c in JoinWithin (lent-to (replicate s.args.names 0) (replicate s.args.sequentials 0) s) s.args.h (given_to s)

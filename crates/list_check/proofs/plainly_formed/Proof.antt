@@ -2,7 +2,7 @@
 use mathlib.Core.Path.{sym, ◌∙◌}
 use mathlib.Core.Bool.{true≢false}
 use borrow.Author.Rules.{rules}
-use borrow.Author.Tests.{not_true}
+use borrow.Author.Tests.{not-true}
 use Rattle.list_check.proofs.Plain.{one_to_three, unnamed, plain, plain_const}
 use Rattle.list_check.proofs.plainly_formed.Statement.{statement}
 use Rattle.list_check.proofs.plainly_formed.Tie as tie
@@ -19,7 +19,7 @@ returns-8 c e =
     let s = t.before.before in
     let n = s.before.before in (
       unnamed _ n.before.if2.false n.if3.false,
-      λ host ours. plain host ours _ _ n.before.before.if1.false n.before.if2.false n.if3.false (one_to_three _ s.if5.false s.before.if4.false) (λ k m. t.if7.false (rw (k, m))) (sym c.three-out.ensures ∙ not_true _ e),
+      λ host ours. plain host ours _ _ n.before.before.if1.false n.before.if2.false n.if3.false (one_to_three _ s.if5.false s.before.if4.false) (λ k m. t.if7.false (rw (k, m))) (sym c.three-out.ensures ∙ not-true _ e),
     )
 
 pub plainly-formed-spec : {M : Type 1} → statement M

@@ -4,7 +4,7 @@ use Prim.Native.Nat.{◌-◌, ◌≤◌}
 use mathlib.Core.Path.{◌≡◌, refl, sym, ◌∙◌}
 use lib.ListN.{length, drop}
 use borrow.Author.Rules.{rules}
-use borrow.Author.Tests.{not_true, not_false}
+use borrow.Author.Tests.{not-true, not-false}
 use Rattle.listing_input.specs.Text.{all}
 use Rattle.listing_input.specs.Line.{letter, letters}
 use Rattle.listing_input.proofs.Steps.{all_yes, all_no, all_end, letters_yes, letters_no}
@@ -34,7 +34,7 @@ returns-2 : tie.Need-returns-2 invariant-loop decreases-loop
 returns-2 c =
     let s = c.before.before.before.before.before.before.before.args.s.now in
     let i = c.before.before.before.before.loop.i in
-    let e = all_no s i c.before.before.before.loop-test.true letter (sym c.before.letter.ensures ∙ not_true _ c.if2.true) in
+    let e = all_no s i c.before.before.before.loop-test.true letter (sym c.before.letter.ensures ∙ not-true _ c.if2.true) in
     letters_no s (sym c.before.before.before.before.loop.invariant.1 ∙ e)
 
 add-i : tie.Need-overflow-add-i invariant-loop decreases-loop
@@ -47,7 +47,7 @@ loop-again : tie.Need-loop-preserved invariant-loop decreases-loop
 loop-again c =
     let s = c.before.before.before.before.before.before.before.args.s.now in
     let i = c.before.before.before.before.loop.i in
-    let e = all_yes s i c.before.before.before.loop-test.true letter (sym c.before.letter.ensures ∙ not_false _ c.if2.false) in
+    let e = all_yes s i c.before.before.before.loop-test.true letter (sym c.before.letter.ensures ∙ not-false _ c.if2.false) in
     (search rules, sym e ∙ c.before.before.before.before.loop.invariant.1)
 
 returns-3 : tie.Need-returns-3 invariant-loop decreases-loop

@@ -1,0 +1,20 @@
+-- Where it stands at once, or in an array of its own, and from there. Assumes nothing.
+use native.Mathlib.Omega.{arith}
+use Rattle.text.proofs.Laws.{put_as, put_length}
+use Rattle.row_text.proofs.Table.{read_back}
+use Rattle.row_text.proofs.put_row.Goals as goal
+
+pub row_in-requires : goal.row_in-requires
+row_in-requires c = omega (arith, c.has_room.ensures c.if-has_room.true)
+
+pub returns-then-has_room : goal.returns-then-has_room
+returns-then-has_room c = c.row_in.ensures.0
+
+pub slice_bounds-row-end : goal.slice_bounds-row-end
+slice_bounds-row-end c = omega (arith, c.row_in-n.ensures.1, put_length c.row_in-n.ensures.0)
+
+pub slice_bounds-put_bytes-end : goal.slice_bounds-put_bytes-end
+slice_bounds-put_bytes-end c = let back = read_back c.row_in-n.ensures.0 c.row_in-n.ensures.1 (omega arith) in rw back.1 back.0
+
+pub returns : goal.returns
+returns c = put_as c.put_bytes.ensures (read_back c.row_in-n.ensures.0 c.row_in-n.ensures.1 (omega arith)).1

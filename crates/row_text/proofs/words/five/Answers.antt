@@ -1,0 +1,34 @@
+-- One store after the other. Assumes nothing.
+use Prim.Native.Nat.{suc, ◌+◌}
+use mathlib.Core.Path.{◌≡◌}
+use native.Mathlib.Omega.{arith}
+use lib.ListN.{length-set}
+use Rattle.row_text.proofs.words.five.Goals as goal
+
+pub bounds-out-at-2 : goal.bounds-out-at-2
+bounds-out-at-2 c = simp length-set (omega arith)
+
+pub bounds-out-at-3 : goal.bounds-out-at-3
+bounds-out-at-3 c = simp length-set (omega arith)
+
+pub bounds-out-at-4 : goal.bounds-out-at-4
+bounds-out-at-4 c = simp length-set (omega arith)
+
+pub bounds-out-at-5 : goal.bounds-out-at-5
+bounds-out-at-5 c = simp length-set (omega arith)
+
+pub bounds-out-at-6 : goal.bounds-out-at-6
+bounds-out-at-6 c = simp length-set (omega arith)
+
+pub bounds-out-at-7 : goal.bounds-out-at-7
+bounds-out-at-7 c = simp length-set (omega arith)
+
+pub returns : goal.returns
+returns c = 
+    let e1 : c.args.at + 1 ≡ suc c.args.at = omega arith in
+    let e2 : c.args.at + 2 ≡ suc (suc c.args.at) = omega arith in
+    let e3 : c.args.at + 3 ≡ suc (suc (suc c.args.at)) = omega arith in
+    let e4 : c.args.at + 4 ≡ suc (suc (suc (suc c.args.at))) = omega arith in
+    let e5 : c.args.at + 5 ≡ suc (suc (suc (suc (suc c.args.at)))) = omega arith in
+    let e6 : c.args.at + 6 ≡ suc (suc (suc (suc (suc (suc c.args.at))))) = omega arith in
+    (record { list = rw (e1, e2, e3, e4, e5, e6); next = omega arith }, omega arith)

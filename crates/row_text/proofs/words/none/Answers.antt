@@ -1,0 +1,14 @@
+-- One store after the other. Assumes nothing.
+use Prim.Native.Nat.{suc, ◌+◌}
+use mathlib.Core.Path.{◌≡◌}
+use native.Mathlib.Omega.{arith}
+use lib.ListN.{length-set}
+use Rattle.row_text.proofs.words.none.Goals as goal
+
+pub bounds-out-at-2 : goal.bounds-out-at-2
+bounds-out-at-2 c = simp length-set (omega arith)
+
+pub returns : goal.returns
+returns c = 
+    let e1 : c.args.at + 1 ≡ suc c.args.at = omega arith in
+    (record { list = rw (e1); next = omega arith }, omega arith)
