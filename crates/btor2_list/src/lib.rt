@@ -9,7 +9,7 @@ ghost use Rattle.std.proofs.lemmas.List.Edits.{sets};
 ghost use Rattle.btor2.specs.Op.{carried, identifiers};
 ghost use Rattle.btor2_list.specs.declared.Line.{Line};
 ghost use Rattle.btor2_list.specs.Kinds.{uext_kind};
-ghost use Rattle.btor2_list.specs.Record.{stride, capacity as capacityOf, saturated, head_of, with_mark as withMarkOf, address_by, with_address, address_lines, has_name, words, record_at, holds, put_at, get_at, field_at, first_lines};
+ghost use Rattle.btor2_list.specs.Record.{stride, capacity as capacity_of, saturated, head_of, with_mark as with_mark_of, address_by, with_address, address_lines, has_name, words, record_at, holds, put_at, get_at, field_at, first_lines};
 ghost use Rattle.btor2_list.specs.Node.{op_of};
 ghost use Rattle.btor2_list.specs.Look.{outside as no_line, look_at, address_at};
 ghost use Rattle.btor2_list.specs.Inside.{unaddressed};
@@ -148,7 +148,7 @@ pub struct Looked {
 
 // How many records so many words hold.
 pub fn capacity(words: usize) -> usize
-    ensures { result ≡ capacityOf words }
+    ensures { result ≡ capacity_of words }
 {
     words / STRIDE
 }
@@ -212,7 +212,7 @@ fn head_of(kind: u64, sort: u64, area: u64, init: u64, nid: u64) -> u64
 
 // A first word with the mark of an address: its lowest bit, so that a mark that is there stays one.
 fn with_mark(head: u64) -> u64
-    ensures { result ≡ withMarkOf head }
+    ensures { result ≡ with_mark_of head }
 {
     if head / ADDRESS_UNIT % 2 == 0 {
         return head + ADDRESS_UNIT;
@@ -268,7 +268,7 @@ pub fn get(list: &[u64], place: NodeRef) -> Found
 }
 
 fn fetch(list: &[u64], p: usize) -> Line
-    requires { p < capacityOf (length list.now) }
+    requires { p < capacity_of (length list.now) }
     ensures { result ≡ record_at list.now p }
 {
     let at = p * STRIDE;
@@ -445,7 +445,7 @@ fn least(a: usize, b: usize) -> usize
 
 // 9, of this many lines in these words.
 pub fn list_out(list: &[u64], lines: usize) -> bool
-    ensures { result ≡ lines_out (capacityOf (length list.now)) lines }
+    ensures { result ≡ lines_out (capacity_of (length list.now)) lines }
 {
     lines_out(list.len() / STRIDE, lines)
 }

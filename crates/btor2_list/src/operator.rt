@@ -2,7 +2,7 @@
 ghost use Rattle.std.specs.Prelude.{◌≡◌, cond, not, eqb};
 ghost use Rattle.btor2.specs.declared.MaybeSort.TheVariants.{Sort};
 ghost use Rattle.btor2.specs.Sort.{sort_numbered};
-ghost use Rattle.btor2.specs.Op.{state as stateOp, state_init};
+ghost use Rattle.btor2.specs.Op.{state as state_op, state_init};
 ghost use Rattle.btor2_list.specs.declared.Line.{Line};
 ghost use Rattle.btor2_list.specs.Node.{op_of};
 ghost use Rattle.btor2_list.specs.Operator.{op_from};
@@ -111,7 +111,7 @@ fn with_sort(line: Line, s: NodeType) -> LineOperator
 
 // A State, with an init where the constant is not 0.
 fn state(s: NodeType, imm: u64, init: NodeRef, name: Name) -> LineOperator
-    ensures { op_from result ≡ cond (eqb imm 0) (stateOp s name) (state_init s init.0 name) }
+    ensures { op_from result ≡ cond (eqb imm 0) (state_op s name) (state_init s init.0 name) }
 {
     if imm == 0 {
         return LineOperator::State(s, name);

@@ -3,10 +3,12 @@
 
 mod decimal;
 mod held;
+mod input;
 mod record;
 mod shown;
 
 pub use decimal::{Decimal, read_decimal};
 pub use held::{Step, read_counts, read_role};
+pub use input::read_full;
 pub use record::{Placed, read_record};
 pub use shown::{show, show_counts, show_lines, show_numbers, show_record};

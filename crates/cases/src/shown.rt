@@ -2,29 +2,29 @@
 use btor2::NodeRef;
 use btor2_list::{Found, Line, MaybeAddress, is_named};
 use builder::Tally;
-use libc::STDOUT_FILENO;
 use state::Counts;
+use std::io;
 
-pub fn show(n: u64, after: &[u8]) {
-    io::print_decimal(STDOUT_FILENO, n);
-    io::write_all(STDOUT_FILENO, after);
+pub fn show(rt: &impl Print, n: u64, after: &[u8]) -> io::Result<()> {
+    rt.print(n)?;
+    rt.write_all(after)
 }
 
 // Numbers on a line of their own.
-pub fn show_numbers(numbers: &[u64]) {
+pub fn show_numbers(rt: &impl Print, numbers: &[u64]) -> io::Result<()> {
     let mut at = 0;
     while at < numbers.len() {
         if 0 < at {
-            io::write_all(STDOUT_FILENO, b" ");
+            rt.write_all(b" ")?;
         }
-        io::print_decimal(STDOUT_FILENO, numbers[at]);
+        rt.print(numbers[at])?;
         at += 1;
     }
-    io::write_all(STDOUT_FILENO, b"\n");
+    rt.write_all(b"\n")
 }
 
 // The fields of a record, the mark of an address and the address last.
-pub fn show_record(line: Line) {
+pub fn show_record(rt: &impl Print, line: Line) -> io::Result<()> {
     let address = line.address;
     let numbers = [
         line.nid.0,
@@ -40,7 +40,7 @@ pub fn show_record(line: Line) {
         address_mark(address),
         address_word(address),
     ];
-    show_numbers(&numbers);
+    show_numbers(rt, &numbers)
 }
 
 // What a record has of an address: its mark, and its last word.
@@ -59,33 +59,39 @@ fn address_word(address: MaybeAddress) -> u64 {
 }
 
 // The lines of the list from one place up to another, each with its name in our area after it, where lines of its kind have names.
-pub fn show_lines(list: &[u64], names: &[u8], from: usize, to: usize) {
+pub fn show_lines(
+    rt: &impl Print,
+    list: &[u64],
+    names: &[u8],
+    from: usize,
+    to: usize,
+) -> io::Result<()> {
     let mut place = from;
     while place < to {
         match btor2_list::get(list, NodeRef(place)) {
-            Found::Line(line) => show_line(names, line),
-            Found::Outside => {
-                io::write_all(STDOUT_FILENO, b"outside\n");
-            }
+            Found::Line(line) => show_line(rt, names, line)?,
+            Found::Outside => rt.write_all(b"outside\n")?,
         }
         place += 1;
     }
+    Ok(())
 }
 
-fn show_line(names: &[u8], line: Line) {
-    show_record(line);
+fn show_line(rt: &impl Print, names: &[u8], line: Line) -> io::Result<()> {
+    show_record(rt, line)?;
     if is_named(line.kind) {
-        io::write_all(STDOUT_FILENO, btor2_list::name_bytes(b"", names, line.name));
-        io::write_all(STDOUT_FILENO, b"\n");
+        rt.write_all(btor2_list::name_bytes(b"", names, line.name))?;
+        rt.write_all(b"\n")?;
     }
+    Ok(())
 }
 
-pub fn show_counts(tally: Tally, counts: Counts) {
-    io::write_all(STDOUT_FILENO, b"counts ");
-    show(tally.lines as u64, b" ");
-    show(tally.nid, b" ");
-    show(counts.names as u64, b" ");
-    show(counts.edges as u64, b" ");
-    show(counts.dispatches as u64, b" ");
-    show(counts.bads as u64, b"\n");
+pub fn show_counts(rt: &impl Print, tally: Tally, counts: Counts) -> io::Result<()> {
+    rt.write_all(b"counts ")?;
+    show(rt, tally.lines as u64, b" ")?;
+    show(rt, tally.nid, b" ")?;
+    show(rt, counts.names as u64, b" ")?;
+    show(rt, counts.edges as u64, b" ")?;
+    show(rt, counts.dispatches as u64, b" ")?;
+    show(rt, counts.bads as u64, b"\n")
 }

@@ -12,12 +12,12 @@ ghost use Rattle.std.specs.Prelude.{◌≤◌};
 
 use btor2::NodeRef;
 use btor2_list::STRIDE;
-use cases::{read_counts, read_decimal, read_role, show, show_counts};
+use cases::{read_counts, read_decimal, read_full, read_role, show, show_counts};
 use edges::{DISPATCH, InEdge};
-use libc::{STDIN_FILENO, STDOUT_FILENO};
 use lowering::Lowered;
 use riscv::Instruction;
 use state::{ROLES, State};
+use std::io;
 
 const RECORDS: usize = 5;
 
@@ -36,34 +36,43 @@ struct Recorded {
     records: [InEdge; RECORDS],
 }
 
-fn main() {
+fn main(rt: HostRuntime) -> io::Result<()> {
     let mut buffer = [0u8; 65536];
-    let n = io::read_full(STDIN_FILENO, &mut buffer);
+    let n = read_full(&mut rt.stdin(), &mut buffer)?;
     let mut list = [0u64; 500];
     let mut names = [0u8; 64];
     let mut dispatches = [0u64; 4];
     let mut bads = [0u64; 2];
     run(
+        &rt,
         &buffer[..n],
         &mut list,
         &mut names,
         &mut dispatches,
         &mut bads,
-    );
+    )
 }
 
-fn run(text: &[u8], list: &mut [u64], names: &mut [u8], dispatches: &mut [u64], bads: &mut [u64]) {
+fn run(
+    rt: &impl Print,
+    text: &[u8],
+    list: &mut [u64],
+    names: &mut [u8],
+    dispatches: &mut [u64],
+    bads: &mut [u64],
+) -> io::Result<()> {
     let mut at = 0;
     let mut went = fresh(list, 0);
     while at < text.len() {
         let state = went.state;
         let records = went.records;
-        went = run_line(text, at, list, names, dispatches, bads, state, records);
+        went = run_line(rt, text, at, list, names, dispatches, bads, state, records)?;
         if went.next <= at {
-            return;
+            return Ok(());
         }
         at = went.next;
     }
+    Ok(())
 }
 
 fn fresh(list: &mut [u64], next: usize) -> Went {
@@ -100,6 +109,7 @@ fn unused_record(place: usize) -> InEdge
 
 // One command.
 fn run_line(
+    rt: &impl Print,
     text: &[u8],
     at: usize,
     list: &mut [u64],
@@ -108,15 +118,17 @@ fn run_line(
     bads: &mut [u64],
     state: State,
     records: [InEdge; RECORDS],
-) -> Went {
+) -> io::Result<Went> {
     let command = read_decimal(text, at);
     let from = command.next;
     let which = command.value;
     if which == 1 {
-        return run_lower(text, from, list, names, dispatches, bads, state, records);
+        return run_lower(
+            rt, text, from, list, names, dispatches, bads, state, records,
+        );
     }
     if which == 2 {
-        return fresh(list, from);
+        return Ok(fresh(list, from));
     }
     let step = if which == 3 {
         read_counts(text, from, state)
@@ -124,14 +136,15 @@ fn run_line(
         read_role(text, from, state)
     };
     let changed = step.state;
-    Went {
+    Ok(Went {
         state: changed,
         records,
         next: step.next,
-    }
+    })
 }
 
 fn run_lower(
+    rt: &impl Print,
     text: &[u8],
     at: usize,
     list: &mut [u64],
@@ -140,7 +153,7 @@ fn run_lower(
     bads: &mut [u64],
     state: State,
     records: [InEdge; RECORDS],
-) -> Went {
+) -> io::Result<Went> {
     let room = read_decimal(text, at);
     let address = read_decimal(text, room.next);
     let kind = read_decimal(text, address.next);
@@ -173,15 +186,15 @@ fn run_lower(
     let lowered = recorded.lowered;
     let after = lowered.state;
     let left = recorded.records;
-    io::write_all(STDOUT_FILENO, b"refusal ");
-    show(lowered.refusal, b"\n");
-    show_appended(list, names, dispatches, bads, state, after);
-    show_records(left);
-    Went {
+    rt.write_all(b"refusal ")?;
+    show(rt, lowered.refusal, b"\n")?;
+    show_appended(rt, list, names, dispatches, bads, state, after)?;
+    show_records(rt, left)?;
+    Ok(Went {
         state: after,
         records: left,
         next: flag.next,
-    }
+    })
 }
 
 fn at_most_all(n: u64) -> usize
@@ -229,44 +242,53 @@ fn lower_with(
 
 // What a call changed: the state before it says where it wrote.
 fn show_appended(
+    rt: &impl Print,
     list: &[u64],
     names: &[u8],
     dispatches: &[u64],
     bads: &[u64],
     before: State,
     after: State,
-) {
+) -> io::Result<()> {
     let old = before.tally;
     let new = after.tally;
     let from = before.counts;
     let to = after.counts;
-    show_words(b"lines", list, STRIDE, old.lines, new.lines);
+    show_words(rt, b"lines", list, STRIDE, old.lines, new.lines)?;
     show_words(
+        rt,
         b"dispatches",
         dispatches,
         DISPATCH,
         from.dispatches,
         to.dispatches,
-    );
-    show_words(b"bads", bads, 1, from.bads, to.bads);
-    show_names(names, from.names, to.names);
-    show_counts(new, to);
+    )?;
+    show_words(rt, b"bads", bads, 1, from.bads, to.bads)?;
+    show_names(rt, names, from.names, to.names)?;
+    show_counts(rt, new, to)?;
     let roles = after.roles;
-    show_roles(roles);
+    show_roles(rt, roles)
 }
 
 // The words of the elements from one place up to another, of so many words each.
-fn show_words(title: &[u8], words: &[u64], each: usize, from: usize, to: usize) {
-    io::write_all(STDOUT_FILENO, title);
+fn show_words(
+    rt: &impl Print,
+    title: &[u8],
+    words: &[u64],
+    each: usize,
+    from: usize,
+    to: usize,
+) -> io::Result<()> {
+    rt.write_all(title)?;
     let mut at = 0;
     while at < words.len() {
         if within(at, each, from, to) {
-            io::write_all(STDOUT_FILENO, b" ");
-            io::print_decimal(STDOUT_FILENO, words[at]);
+            rt.write_all(b" ")?;
+            rt.print(words[at])?;
         }
         at += 1;
     }
-    io::write_all(STDOUT_FILENO, b"\n");
+    rt.write_all(b"\n")
 }
 
 fn within(at: usize, each: usize, from: usize, to: usize) -> bool {
@@ -277,33 +299,34 @@ fn within(at: usize, each: usize, from: usize, to: usize) -> bool {
     (from <= element) & (element < to)
 }
 
-fn show_names(names: &[u8], from: usize, to: usize) {
-    io::write_all(STDOUT_FILENO, b"names ");
+fn show_names(rt: &impl Print, names: &[u8], from: usize, to: usize) -> io::Result<()> {
+    rt.write_all(b"names ")?;
     if from <= to {
         if to <= names.len() {
-            io::write_all(STDOUT_FILENO, &names[from..to]);
+            rt.write_all(&names[from..to])?;
         }
     }
-    io::write_all(STDOUT_FILENO, b"\n");
+    rt.write_all(b"\n")
 }
 
-fn show_roles(roles: [NodeRef; ROLES]) {
-    io::write_all(STDOUT_FILENO, b"roles");
+fn show_roles(rt: &impl Print, roles: [NodeRef; ROLES]) -> io::Result<()> {
+    rt.write_all(b"roles")?;
     for role in 0..ROLES {
-        io::write_all(STDOUT_FILENO, b" ");
+        rt.write_all(b" ")?;
         let place = roles[role];
-        io::print_decimal(STDOUT_FILENO, place.0 as u64);
+        rt.print(place.0 as u64)?;
     }
-    io::write_all(STDOUT_FILENO, b"\n");
+    rt.write_all(b"\n")
 }
 
-fn show_records(records: [InEdge; RECORDS]) {
+fn show_records(rt: &impl Print, records: [InEdge; RECORDS]) -> io::Result<()> {
     for place in 0..RECORDS {
         let edge = records[place];
-        io::write_all(STDOUT_FILENO, b"record ");
-        show(edge.to, b" ");
-        show(edge.from, b" ");
-        show(edge.origin, b" ");
-        show(edge.condition.0 as u64, b"\n");
+        rt.write_all(b"record ")?;
+        show(rt, edge.to, b" ")?;
+        show(rt, edge.from, b" ")?;
+        show(rt, edge.origin, b" ")?;
+        show(rt, edge.condition.0 as u64, b"\n")?;
     }
+    Ok(())
 }

@@ -1,7 +1,7 @@
 -- What states and inputs are (document 02, R-2): "values for states and inputs, and memory as records of node, address and word (the first for
 -- a node, or node and address, counts, a missing one reads 0, an init isn't used)". A node is named by its place. Words after the last whole
 -- record are none.
-use Rattle.std.specs.Prelude.{ℕ, ◌/◌, Bool, cond, ◌&&◌, List, [], ◌∷◌, eqb, length, get_or}
+use Rattle.std.specs.Prelude.{ℕ, ◌/◌, Bool, ◌&&◌, List, eqb, length, get_or}
 use Rattle.btor2.specs.Value.{Env}
 use Rattle.btor2_list.specs.Records.{records_in, first_given}
 

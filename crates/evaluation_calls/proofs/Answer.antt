@@ -1,13 +1,12 @@
 -- The answer, by the tests before the first visit. Assumes nothing.
-use Rattle.std.proofs.Common.{◌≡◌, ℕ, ◌<◌, ◌≤◌, Bool, true, false, cond, ◌&&◌, ◌||◌, ltb, List, length, get_or, sym, refl, ap, ◌∙◌, true≢false, arith, ltb-false, le-ltb, lt-ltb}
+use Rattle.std.proofs.Common.{◌≡◌, ℕ, ◌<◌, ◌≤◌, Bool, true, false, ◌||◌, ltb, List, length, get_or, sym, refl, ap, ◌∙◌, true≢false, arith, ltb-false, le-ltb, lt-ltb}
 use mathlib.Core.Bool as B
 use lib.ListN.{get_or-eq_default}
 use Rattle.bitvec.proofs.Truth.{neither}
 use Rattle.bitvec.proofs.Base.{by_le}
-use Rattle.btor2.specs.declared.NodeType.{NodeType}
 use Rattle.btor2.specs.declared.NodeType.TheVariants.{Bit, Word}
 use Rattle.btor2.specs.declared.MaybeSort.{MaybeSort}
-use Rattle.btor2.specs.declared.MaybeSort.TheVariants.{Sort, NoSort}
+use Rattle.btor2.specs.declared.MaybeSort.TheVariants.{NoSort}
 use Rattle.btor2.specs.Op.{unknown, carried}
 use Rattle.btor2.specs.SortRule.{has_sort}
 use Rattle.btor2_list.specs.Record.{capacity}
@@ -18,9 +17,9 @@ use Rattle.list_check.proofs.Formed.{op_at_lem, ops-length}
 use Rattle.list_check.specs.Broken.{line_broken, broken_words}
 use Rattle.evaluation.specs.Given.{given_env}
 use Rattle.evaluation.specs.declared.Evaluated.{Evaluated}
-use Rattle.evaluation.specs.declared.Evaluated.TheVariants.{Refused, Value}
-use Rattle.evaluation.specs.Evaluation.{bench_lines, unfit_asked, most_visits, Looks, looks_of, no_looks, looks, looks_at, unfit, evaluated_within, evaluated}
-use Rattle.evaluation_calls.specs.Inside.{said_at, all_of, num_from, Visitable}
+use Rattle.evaluation.specs.declared.Evaluated.TheVariants.{Refused}
+use Rattle.evaluation.specs.Evaluation.{bench_lines, unfit_asked, most_visits, Looks, looks_of, no_looks, looks, unfit, evaluated_within, evaluated}
+use Rattle.evaluation_calls.specs.Inside.{num_from, Visitable}
 use Rattle.evaluation_calls.proofs.Walked.{kept}
 
 -- a lookup in the list tells the sort of the line

@@ -1,28 +1,25 @@
 -- A line that is visited: below the most_visits and where it meets the sort rule, what it comes to is what its operands come to. Assumes nothing.
-use Rattle.std.proofs.Common.{◌≡◌, ℕ, ◌+◌, ◌<◌, ◌≤◌, Bool, true, false, cond, ◌&&◌, ◌||◌, List, [], length, get_or, sym, refl, ap, ◌∙◌, ap₂, true≢false, arith, le-ltb, lt-ltb}
+use Rattle.std.proofs.Common.{◌≡◌, ℕ, ◌+◌, ◌<◌, ◌≤◌, Bool, true, false, ◌&&◌, ◌||◌, List, [], length, sym, refl, ap, ◌∙◌, ap₂, arith, le-ltb, lt-ltb}
 use mathlib.Core.Path.{fun_ext}
 use lib.ListN.{get_or-eq_default}
 use Rattle.bitvec.proofs.Base.{by_le}
 use Rattle.btor2.specs.declared.NodeType.{NodeType}
 use Rattle.btor2.specs.declared.NodeType.TheVariants.{Bit, Word, Memory}
 use Rattle.btor2.specs.Sort.{same_sort}
-use Rattle.btor2.specs.Op.{Op, map_op, const, read, write, bin, uext, ite, eq, and, or, not, state, state_init, next, input, bad, unknown, carried}
-use Rattle.btor2.specs.SortRule.{Mark, mark_of, is_state_op, is, rule, Judged, judge, no_line}
+use Rattle.btor2.specs.Op.{Op, map_op, const, read, write, bin, uext, ite, eq, and, or, not, state, state_init, next, input, bad, unknown}
+use Rattle.btor2.specs.SortRule.{Mark, mark_of, is, rule, Judged, judge}
 use Rattle.btor2.specs.Value.{Env}
 use Rattle.btor2.specs.Walk.{walk}
 use Rattle.btor2.proofs.Op.{map_op-map_op, mark_map}
 use Rattle.btor2_list.specs.Record.{capacity}
 use Rattle.btor2_list.specs.View.{view}
 use Rattle.list_check.specs.Lines.{ops}
-use Rattle.list_check.proofs.Formed.{ops-length}
 use Rattle.sort_check.specs.Marks.{mark_at}
-use Rattle.evaluation.specs.Given.{given_env}
-use Rattle.evaluation.specs.declared.Evaluated.{Evaluated}
-use Rattle.evaluation.specs.declared.Evaluated.TheVariants.{Refused, Value}
-use Rattle.evaluation.specs.Evaluation.{ill_sorted, too_many_visits, most_visits, Looks, look_of, visit, looks_of, no_looks, looks, looks_at}
-use Rattle.evaluation_calls.specs.Inside.{said_at, all_of, num_from, cell_from}
+use Rattle.evaluation.specs.declared.Evaluated.TheVariants.{Refused}
+use Rattle.evaluation.specs.Evaluation.{ill_sorted, too_many_visits, most_visits, Looks, look_of, looks_of, no_looks, looks, looks_at}
+use Rattle.evaluation_calls.specs.Inside.{said_at, all_of}
 use Rattle.evaluation_calls.proofs.Walked.{first, kept, at, long}
-use Rattle.evaluation_calls.proofs.Parts.{two, Parts, parts, earlier, state_earlier, mark_before, mark_after}
+use Rattle.evaluation_calls.proofs.Parts.{two, Parts, parts, earlier, mark_before, mark_after}
 
 first_or : (P : Type 0) (a b c d : Bool) → ((a && b) || (c && d)) ≡ true → (a ≡ true → b ≡ true → P) → (c ≡ true → d ≡ true → P) → P
 first_or P true true c d e l r = l refl refl
@@ -38,21 +35,21 @@ module _ (f : ℕ → Mark) (g h : ℕ → Looks) (same : (s : NodeType) (q : �
   pub agree : (o : Op ℕ) → Parts f o → map_op g o ≡ map_op h o
   unfolding map_op
   agree (const s n) e = refl
-  agree (read m a) e = ap₂ read (same _ m e.0) (same _ a e.1)
-  agree (write m a v) e = rw (same _ m e.0, same _ a e.1, same _ v e.2)
-  agree (bin o a b) e = rw (same _ a e.0, same _ b e.1)
-  agree (uext s a) e = rw (same _ a e.1)
-  agree (ite s c a b) e = rw (same _ c e.0, same _ a e.1, same _ b e.2)
+  agree (read m a) e = ap₂ read (same Memory m e.0) (same Word a e.1)
+  agree (write m a v) e = rw (same Memory m e.0, same Word a e.1, same Word v e.2)
+  agree (bin o a b) e = rw (same Word a e.0, same Word b e.1)
+  agree (uext s a) e = rw (same s a e.1)
+  agree (ite s c a b) e = rw (same Bit c e.0, same s a e.1, same s b e.2)
   agree (eq a b) e =
-      first_or _ (is Bit (f a)) (is Bit (f b)) (is Word (f a)) (is Word (f b)) e (λ x y. rw (same _ a x, same _ b y)) (λ x y. rw (same _ a x, same _ b y))
-  agree (and s a b) e = rw (same _ a e.1, same _ b e.2)
-  agree (or s a b) e = rw (same _ a e.1, same _ b e.2)
-  agree (not s a) e = rw (same _ a e.1)
+      first_or _ (is Bit (f a)) (is Bit (f b)) (is Word (f a)) (is Word (f b)) e (λ x y. rw (same Bit a x, same Bit b y)) (λ x y. rw (same Word a x, same Word b y))
+  agree (and s a b) e = rw (same s a e.1, same s b e.2)
+  agree (or s a b) e = rw (same s a e.1, same s b e.2)
+  agree (not s a) e = rw (same s a e.1)
   agree (state s m) e = refl
-  agree (state_init s a m) e = init_or _ (is s (f a)) (same_sort s Memory) (is Word (f a)) e (λ x. rw (same _ a x)) (λ x. rw (same _ a x))
-  agree (next s a b) e = rw (same _ a e.1, same _ b e.2)
+  agree (state_init s a m) e = init_or _ (is s (f a)) (same_sort s Memory) (is Word (f a)) e (λ x. rw (same s a x)) (λ x. rw (same Word a x))
+  agree (next s a b) e = rw (same s a e.1, same s b e.2)
   agree (input s m) e = refl
-  agree (bad a m) e = rw (same _ a e)
+  agree (bad a m) e = rw (same Bit a e)
   agree unknown e = absurd e
 
 module _ (env : Env) (ws : List ℕ) where

@@ -1,5 +1,5 @@
 -- What the sort rule of a line says of its operands: each is an earlier line of a sort. Assumes nothing.
-use Rattle.std.proofs.Common.{◌≡◌, ℕ, ◌<◌, ◌≤◌, Bool, true, false, cond, ◌&&◌, ◌||◌, T, List, length, sym, refl, ap, ◌∙◌, ap₂, true≢false, arith, le-ltb, lt-ltb}
+use Rattle.std.proofs.Common.{◌≡◌, ℕ, ◌<◌, ◌≤◌, Bool, true, false, ◌&&◌, ◌||◌, T, List, length, sym, refl, ap, ◌∙◌, true≢false, arith, le-ltb, lt-ltb}
 use mathlib.Core.Bool as B
 use Rattle.bitvec.proofs.Base.{by_le}
 use Rattle.btor2.specs.declared.NodeType.{NodeType}
@@ -8,7 +8,7 @@ use Rattle.btor2.specs.declared.MaybeSort.{MaybeSort}
 use Rattle.btor2.specs.declared.MaybeSort.TheVariants.{Sort, NoSort}
 use Rattle.btor2.specs.Sort.{same_sort}
 use Rattle.btor2.specs.Op.{Op, map_op, const, read, write, bin, uext, ite, eq, and, or, not, state, state_init, next, input, bad, unknown, carried}
-use Rattle.btor2.specs.SortRule.{Mark, mark_of, is_state_op, has_sort, is, bit_or_word, rule, no_line}
+use Rattle.btor2.specs.SortRule.{Mark, mark_of, has_sort, is, bit_or_word, rule, no_line}
 use Rattle.btor2.proofs.Sort.{same_sort_lem}
 use Rattle.btor2_list.specs.Record.{capacity}
 use Rattle.sort_check.specs.Marks.{mark_at}

@@ -1,24 +1,23 @@
 -- What each arm of the evaluation returns and asks. Assumes nothing.
-use Rattle.std.proofs.Common.{◌≡◌, ℕ, ◌+◌, ◌*◌, ◌%◌, ◌^◌, ◌<◌, ◌≤◌, max, Bool, true, false, cond, ◌&&◌, ◌||◌, eqb, List, [], ◌∷◌, length, sym, refl, ap, ◌∙◌, true≢false, arith, le-ltb, lt-ltb, eq-eqb, ne_eqb}
+use Rattle.std.proofs.Common.{◌≡◌, ℕ, ◌+◌, ◌*◌, ◌%◌, ◌^◌, ◌<◌, ◌≤◌, max, Bool, true, false, cond, ◌||◌, eqb, List, length, sym, refl, ap, ◌∙◌, true≢false, arith, le-ltb, lt-ltb, eq-eqb, ne_eqb}
 use mathlib.Core.Bool as B
-use denote.Enum.Declared.{tag_of}
-use types.Run.{OneOf, miss}
 use Rattle.bitvec.proofs.Base.{by_le}
 use Rattle.bitvec.specs.Smtlib.{bvnot, bvand, bvor, bvcomp, zero_extend}
 use Rattle.bitvec.specs.Smtlib as Smt
 use Rattle.btor2.specs.declared.Name.{Name}
+use Rattle.btor2.specs.declared.NodeRef.{NodeRef}
 use Rattle.btor2.specs.declared.NodeType.{NodeType}
 use Rattle.btor2.specs.declared.NodeType.TheVariants.{Bit, Word, Memory, Input1Byte, Input2Byte, Input3Byte, Input4Byte, Input5Byte, Input6Byte, Input7Byte}
 use Rattle.btor2.specs.declared.MaybeSort.{MaybeSort}
-use Rattle.btor2.specs.declared.MaybeSort.TheVariants.{Sort, NoSort}
+use Rattle.btor2.specs.declared.MaybeSort.TheVariants.{Sort}
 use Rattle.btor2.specs.Sort.{width, same_sort}
-use Rattle.btor2.specs.Op.{Bin, add, sub, mul, udiv, sdiv, urem, sll, srl, ult, bin_sort, Op, map_op, const, read, write, bin, uext, ite, eq, and, or, not, state, state_init, next, input, bad, unknown, carried}
+use Rattle.btor2.specs.Op.{Bin, add, sub, mul, udiv, sdiv, urem, sll, srl, ult, bin_sort, Op, map_op, const, read, write, bin, uext, ite, eq, and, or, not, state, state_init, input, carried}
 use Rattle.btor2.specs.SortRule.{is, has_sort, bit_or_word, rule}
-use Rattle.btor2.specs.Value.{number, array, of_sort, binary}
+use Rattle.btor2.specs.Value.{of_sort, binary}
 use Rattle.btor2_list.specs.Record.{capacity}
+use Rattle.btor2_list.specs.declared.operator.Bin.{Bin as LineBin}
 use Rattle.btor2_list.specs.declared.operator.LineOperator.{LineOperator}
 use Rattle.btor2_list.specs.declared.operator.LineOperator.TheVariants.{Const, Read, Write, Binary, Ext, Ite, Eq, And, Or, Not, State, StateInit, Next, Input, Bad, Unknown}
-use Rattle.btor2_list.specs.contracts.operator.LineOperator.{the_type}
 use Rattle.btor2_list.specs.Operator.{bin_from, op_from}
 use Rattle.sort_check.specs.Marks.{mark_at}
 use Rattle.evaluation.specs.Given.{given_env, given_value, given_cell}
@@ -276,6 +275,43 @@ module _ (ws : List ℕ) (p a b : ℕ) {t : ℕ} (e : EqRight ws p a b) (m : 3 *
       let l = q.0 in
       (omega arith, q.1)
 
+-- ---- the kinds that are left
+
+-- none of the kinds of a line that may carry a word
+pub record NoWord (l : LineOperator) : Type 0 where
+  pub no_const : (s : NodeType) (n : ℕ) → l ≡ Const s n → ⊥
+  pub no_read : (m : NodeRef) (a : NodeRef) → l ≡ Read m a → ⊥
+  pub no_bin : (o : LineBin) (a : NodeRef) (b : NodeRef) → l ≡ Binary o a b → ⊥
+  pub no_uext : (s : NodeType) (a : NodeRef) → l ≡ Ext s a → ⊥
+  pub no_ite : (s : NodeType) (c : NodeRef) (a : NodeRef) (b : NodeRef) → l ≡ Ite s c a b → ⊥
+  pub no_and : (s : NodeType) (a : NodeRef) (b : NodeRef) → l ≡ And s a b → ⊥
+  pub no_or : (s : NodeType) (a : NodeRef) (b : NodeRef) → l ≡ Or s a b → ⊥
+  pub no_not : (s : NodeType) (a : NodeRef) → l ≡ Not s a → ⊥
+  pub no_state : (s : NodeType) (m : Name) → l ≡ State s m → ⊥
+  pub no_init : (s : NodeType) (a : NodeRef) (m : Name) → l ≡ StateInit s a m → ⊥
+  pub no_input : (s : NodeType) (m : Name) → l ≡ Input s m → ⊥
+
+-- none of the kinds of a line that may carry a bit
+pub record NoBit (l : LineOperator) : Type 0 where
+  pub no_const : (s : NodeType) (n : ℕ) → l ≡ Const s n → ⊥
+  pub no_bin : (o : LineBin) (a : NodeRef) (b : NodeRef) → l ≡ Binary o a b → ⊥
+  pub no_ite : (s : NodeType) (c : NodeRef) (a : NodeRef) (b : NodeRef) → l ≡ Ite s c a b → ⊥
+  pub no_eq : (a : NodeRef) (b : NodeRef) → l ≡ Eq a b → ⊥
+  pub no_and : (s : NodeType) (a : NodeRef) (b : NodeRef) → l ≡ And s a b → ⊥
+  pub no_or : (s : NodeType) (a : NodeRef) (b : NodeRef) → l ≡ Or s a b → ⊥
+  pub no_not : (s : NodeType) (a : NodeRef) → l ≡ Not s a → ⊥
+  pub no_state : (s : NodeType) (m : Name) → l ≡ State s m → ⊥
+  pub no_init : (s : NodeType) (a : NodeRef) (m : Name) → l ≡ StateInit s a m → ⊥
+  pub no_input : (s : NodeType) (m : Name) → l ≡ Input s m → ⊥
+
+-- none of the kinds of a line that may carry a memory
+pub record NoCell (l : LineOperator) : Type 0 where
+  pub no_write : (m : NodeRef) (a : NodeRef) (w : NodeRef) → l ≡ Write m a w → ⊥
+  pub no_ite : (s : NodeType) (c : NodeRef) (a : NodeRef) (b : NodeRef) → l ≡ Ite s c a b → ⊥
+  pub no_state : (s : NodeType) (m : Name) → l ≡ State s m → ⊥
+  pub no_init : (s : NodeType) (a : NodeRef) (m : Name) → l ≡ StateInit s a m → ⊥
+  pub no_input : (s : NodeType) (m : Name) → l ≡ Input s m → ⊥
+
 module _ {ws vs ms : List ℕ} {p v : ℕ} where
   -- its sort, as it was asked for
   pub of_sort_lem : (test : MaybeSort → Bool) {o : Op ℕ} → Entered ws vs ms p v o → test (carried (said_at ws p)) ≡ true → test (carried o) ≡ true
@@ -393,28 +429,26 @@ module _ {ws vs ms : List ℕ} {p v : ℕ} where
   turned_bit {s} {a} {x} {z} {k} e t h y w =
       let q = not_bit s (of_sort_lem (has_sort Bit) e t) in valued (of_not e) h y (ap (λ (i : ℕ). Value i k) (w ∙ ap (λ (r : NodeType). bvnot (width r) x) (sym q)))
 
-  -- ---- the kinds that are left
-
-  pub no_word : (o : LineOperator) → OneOf (2 ∷ 6 ∷ 12 ∷ 14 ∷ 15 ∷ []) (tag_of the_type o) → Entered ws vs ms p v (op_from o) → word_sort (carried (said_at ws p)) ≡ true → Refused ill_sorted ≡ num_from ws vs ms p v
+  pub no_word : (o : LineOperator) → NoWord o → Entered ws vs ms p v (op_from o) → word_sort (carried (said_at ws p)) ≡ true → Refused ill_sorted ≡ num_from ws vs ms p v
   unfolding carried
   no_word (Write m a w) h e t = absurd (true≢false (sym (of_sort_lem word_sort e t)))
   no_word (Next s a b) h e t = absurd (true≢false (sym (of_sort_lem word_sort e t)))
   no_word (Bad a m) h e t = absurd (true≢false (sym (of_sort_lem word_sort e t)))
   no_word Unknown h e t = absurd (true≢false (sym (of_sort_lem word_sort e t)))
   no_word (Eq a b) h e t = absurd (true≢false (sym (of_sort_lem word_sort e t)))
-  no_word (Const s n) h e t = absurd (miss (2 ∷ 6 ∷ 12 ∷ 14 ∷ 15 ∷ []) 0 tt h)
-  no_word (Read m a) h e t = absurd (miss (2 ∷ 6 ∷ 12 ∷ 14 ∷ 15 ∷ []) 1 tt h)
-  no_word (Binary o a b) h e t = absurd (miss (2 ∷ 6 ∷ 12 ∷ 14 ∷ 15 ∷ []) 3 tt h)
-  no_word (Ext s a) h e t = absurd (miss (2 ∷ 6 ∷ 12 ∷ 14 ∷ 15 ∷ []) 4 tt h)
-  no_word (Ite s c a b) h e t = absurd (miss (2 ∷ 6 ∷ 12 ∷ 14 ∷ 15 ∷ []) 5 tt h)
-  no_word (And s a b) h e t = absurd (miss (2 ∷ 6 ∷ 12 ∷ 14 ∷ 15 ∷ []) 7 tt h)
-  no_word (Or s a b) h e t = absurd (miss (2 ∷ 6 ∷ 12 ∷ 14 ∷ 15 ∷ []) 8 tt h)
-  no_word (Not s a) h e t = absurd (miss (2 ∷ 6 ∷ 12 ∷ 14 ∷ 15 ∷ []) 9 tt h)
-  no_word (State s m) h e t = absurd (miss (2 ∷ 6 ∷ 12 ∷ 14 ∷ 15 ∷ []) 10 tt h)
-  no_word (StateInit s a m) h e t = absurd (miss (2 ∷ 6 ∷ 12 ∷ 14 ∷ 15 ∷ []) 11 tt h)
-  no_word (Input s m) h e t = absurd (miss (2 ∷ 6 ∷ 12 ∷ 14 ∷ 15 ∷ []) 13 tt h)
+  no_word (Const s n) h e t = absurd (h.no_const s n refl)
+  no_word (Read m a) h e t = absurd (h.no_read m a refl)
+  no_word (Binary o a b) h e t = absurd (h.no_bin o a b refl)
+  no_word (Ext s a) h e t = absurd (h.no_uext s a refl)
+  no_word (Ite s c a b) h e t = absurd (h.no_ite s c a b refl)
+  no_word (And s a b) h e t = absurd (h.no_and s a b refl)
+  no_word (Or s a b) h e t = absurd (h.no_or s a b refl)
+  no_word (Not s a) h e t = absurd (h.no_not s a refl)
+  no_word (State s m) h e t = absurd (h.no_state s m refl)
+  no_word (StateInit s a m) h e t = absurd (h.no_init s a m refl)
+  no_word (Input s m) h e t = absurd (h.no_input s m refl)
 
-  pub no_bit : (o : LineOperator) → OneOf (1 ∷ 2 ∷ 4 ∷ 12 ∷ 14 ∷ 15 ∷ []) (tag_of the_type o) → Entered ws vs ms p v (op_from o) → has_sort Bit (carried (said_at ws p)) ≡ true → Refused ill_sorted ≡ num_from ws vs ms p v
+  pub no_bit : (o : LineOperator) → NoBit o → Entered ws vs ms p v (op_from o) → has_sort Bit (carried (said_at ws p)) ≡ true → Refused ill_sorted ≡ num_from ws vs ms p v
   unfolding carried
   no_bit (Write m a w) h e t = absurd (true≢false (sym (of_sort_lem (has_sort Bit) e t)))
   no_bit (Next s a b) h e t = absurd (true≢false (sym (of_sort_lem (has_sort Bit) e t)))
@@ -422,18 +456,18 @@ module _ {ws vs ms : List ℕ} {p v : ℕ} where
   no_bit Unknown h e t = absurd (true≢false (sym (of_sort_lem (has_sort Bit) e t)))
   no_bit (Read m a) h e t = absurd (true≢false (sym (of_sort_lem (has_sort Bit) e t)))
   no_bit (Ext s a) h e t = absurd (true≢false (sym (of_sort_lem (has_sort Bit) e t)))
-  no_bit (Const s n) h e t = absurd (miss (1 ∷ 2 ∷ 4 ∷ 12 ∷ 14 ∷ 15 ∷ []) 0 tt h)
-  no_bit (Binary o a b) h e t = absurd (miss (1 ∷ 2 ∷ 4 ∷ 12 ∷ 14 ∷ 15 ∷ []) 3 tt h)
-  no_bit (Ite s c a b) h e t = absurd (miss (1 ∷ 2 ∷ 4 ∷ 12 ∷ 14 ∷ 15 ∷ []) 5 tt h)
-  no_bit (Eq a b) h e t = absurd (miss (1 ∷ 2 ∷ 4 ∷ 12 ∷ 14 ∷ 15 ∷ []) 6 tt h)
-  no_bit (And s a b) h e t = absurd (miss (1 ∷ 2 ∷ 4 ∷ 12 ∷ 14 ∷ 15 ∷ []) 7 tt h)
-  no_bit (Or s a b) h e t = absurd (miss (1 ∷ 2 ∷ 4 ∷ 12 ∷ 14 ∷ 15 ∷ []) 8 tt h)
-  no_bit (Not s a) h e t = absurd (miss (1 ∷ 2 ∷ 4 ∷ 12 ∷ 14 ∷ 15 ∷ []) 9 tt h)
-  no_bit (State s m) h e t = absurd (miss (1 ∷ 2 ∷ 4 ∷ 12 ∷ 14 ∷ 15 ∷ []) 10 tt h)
-  no_bit (StateInit s a m) h e t = absurd (miss (1 ∷ 2 ∷ 4 ∷ 12 ∷ 14 ∷ 15 ∷ []) 11 tt h)
-  no_bit (Input s m) h e t = absurd (miss (1 ∷ 2 ∷ 4 ∷ 12 ∷ 14 ∷ 15 ∷ []) 13 tt h)
+  no_bit (Const s n) h e t = absurd (h.no_const s n refl)
+  no_bit (Binary o a b) h e t = absurd (h.no_bin o a b refl)
+  no_bit (Ite s c a b) h e t = absurd (h.no_ite s c a b refl)
+  no_bit (Eq a b) h e t = absurd (h.no_eq a b refl)
+  no_bit (And s a b) h e t = absurd (h.no_and s a b refl)
+  no_bit (Or s a b) h e t = absurd (h.no_or s a b refl)
+  no_bit (Not s a) h e t = absurd (h.no_not s a refl)
+  no_bit (State s m) h e t = absurd (h.no_state s m refl)
+  no_bit (StateInit s a m) h e t = absurd (h.no_init s a m refl)
+  no_bit (Input s m) h e t = absurd (h.no_input s m refl)
 
-  pub no_cell : (o : LineOperator) (a : ℕ) → OneOf (0 ∷ 1 ∷ 3 ∷ 4 ∷ 6 ∷ 7 ∷ 8 ∷ 9 ∷ 12 ∷ 14 ∷ 15 ∷ []) (tag_of the_type o) → Entered ws vs ms p v (op_from o) → has_sort Memory (carried (said_at ws p)) ≡ true
+  pub no_cell : (o : LineOperator) (a : ℕ) → NoCell o → Entered ws vs ms p v (op_from o) → has_sort Memory (carried (said_at ws p)) ≡ true
       → Refused ill_sorted ≡ cell_from ws vs ms p a v
   unfolding carried
   no_cell (Const s n) a h e t = absurd (true≢false (sym e.rules ∙ ap (λ (r : NodeType). B.not (same_sort r Memory)) (memory s (of_sort_lem (has_sort Memory) e t))))
@@ -447,8 +481,8 @@ module _ {ws vs ms : List ℕ} {p v : ℕ} where
   no_cell (Next s b c) a h e t = absurd (true≢false (sym (of_sort_lem (has_sort Memory) e t)))
   no_cell (Bad b m) a h e t = absurd (true≢false (sym (of_sort_lem (has_sort Memory) e t)))
   no_cell Unknown a h e t = absurd (true≢false (sym (of_sort_lem (has_sort Memory) e t)))
-  no_cell (Write m b w) a h e t = absurd (miss (0 ∷ 1 ∷ 3 ∷ 4 ∷ 6 ∷ 7 ∷ 8 ∷ 9 ∷ 12 ∷ 14 ∷ 15 ∷ []) 2 tt h)
-  no_cell (Ite s c b d) a h e t = absurd (miss (0 ∷ 1 ∷ 3 ∷ 4 ∷ 6 ∷ 7 ∷ 8 ∷ 9 ∷ 12 ∷ 14 ∷ 15 ∷ []) 5 tt h)
-  no_cell (State s m) a h e t = absurd (miss (0 ∷ 1 ∷ 3 ∷ 4 ∷ 6 ∷ 7 ∷ 8 ∷ 9 ∷ 12 ∷ 14 ∷ 15 ∷ []) 10 tt h)
-  no_cell (StateInit s i m) a h e t = absurd (miss (0 ∷ 1 ∷ 3 ∷ 4 ∷ 6 ∷ 7 ∷ 8 ∷ 9 ∷ 12 ∷ 14 ∷ 15 ∷ []) 11 tt h)
-  no_cell (Input s m) a h e t = absurd (miss (0 ∷ 1 ∷ 3 ∷ 4 ∷ 6 ∷ 7 ∷ 8 ∷ 9 ∷ 12 ∷ 14 ∷ 15 ∷ []) 13 tt h)
+  no_cell (Write m b w) a h e t = absurd (h.no_write m b w refl)
+  no_cell (Ite s c b d) a h e t = absurd (h.no_ite s c b d refl)
+  no_cell (State s m) a h e t = absurd (h.no_state s m refl)
+  no_cell (StateInit s i m) a h e t = absurd (h.no_init s i m refl)
+  no_cell (Input s m) a h e t = absurd (h.no_input s m refl)

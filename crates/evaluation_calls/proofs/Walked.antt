@@ -1,5 +1,5 @@
 -- The lines of the lent words, walked: a line's meaning from those of the lines before it, and no later line changes it. Assumes nothing.
-use Rattle.std.proofs.Common.{◌≡◌, ℕ, zero, suc, ◌+◌, ◌<◌, ◌≤◌, List, [], ◌∷◌, ◌++◌, length, get_or, sym, refl, ap, ◌∙◌, ⊎_elim, add-zero, eq-or-lt_of_le, zero-add, arith, get_or-append-add}
+use Rattle.std.proofs.Common.{◌≡◌, ℕ, zero, suc, ◌<◌, ◌≤◌, List, [], ◌∷◌, ◌++◌, length, get_or, sym, ap, ◌∙◌, ⊎_elim, add-zero, eq-or-lt_of_le, zero-add, arith, get_or-append-add}
 use mathlib.Core.List.{map-append}
 use Rattle.btor2.specs.Op.{Op, map_op}
 use Rattle.btor2.specs.Walk.{walk}

@@ -1,7 +1,6 @@
 -- What only private contracts cite.
 use Rattle.std.specs.Prelude.{◌≡◌, ℕ, ◌<◌, Bool, true, false, cond, ◌||◌, List, length, nat_lt}
 use Rattle.std.proofs.Math.Bool as B
-use Rattle.btor2.specs.declared.NodeType.{NodeType}
 use Rattle.btor2.specs.declared.NodeType.TheVariants.{Bit, Memory}
 use Rattle.btor2.specs.declared.MaybeSort.{MaybeSort}
 use Rattle.btor2.specs.declared.MaybeSort.TheVariants.{Sort, NoSort}

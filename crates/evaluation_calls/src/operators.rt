@@ -1,7 +1,7 @@
 // The operators on words: what SMT-LIB's bit-vectors say.
 ghost use Rattle.std.specs.Prelude.{◌≡◌, ◌^◌, ◌<◌, ◌≤◌};
 ghost use Rattle.bitvec.specs.Smtlib.{bvnot, bvadd, bvsub, bvmul, bvneg, bvudiv, bvurem, bvsdiv, bvshl, bvlshr, bvult, bvcomp, bvand, bvor};
-ghost use Rattle.btor2.specs.Value.{binary as binaryOf};
+ghost use Rattle.btor2.specs.Value.{binary as binary_of};
 ghost use Rattle.btor2_list.specs.Operator.{bin_from};
 
 use btor2_list::Bin;
@@ -15,7 +15,7 @@ const SIGN: u64 = 0x8000_0000_0000_0000;
 
 // An operator on two words.
 pub(crate) fn binary(o: Bin, x: u64, y: u64) -> u64
-    ensures { result ≡ binaryOf (bin_from o) x y }
+    ensures { result ≡ binary_of (bin_from o) x y }
 {
     match o {
         Bin::Add => wrapping_add_u64(x, y),

@@ -13,10 +13,10 @@
 
 use btor2::NodeRef;
 use btor2_list::STRIDE;
-use cases::{read_decimal, show};
+use cases::{read_decimal, read_full, show};
 use evaluation::Evaluated;
 use evaluation_calls::evaluate;
-use libc::{STDIN_FILENO, STDOUT_FILENO};
+use std::io;
 
 // How many words of each area are in use.
 #[derive(Clone, Copy)]
@@ -42,16 +42,22 @@ struct Words {
     c: u64,
 }
 
-fn main() {
+fn main(rt: HostRuntime) -> io::Result<()> {
     let mut buffer = [0u8; 262144];
-    let n = io::read_full(STDIN_FILENO, &mut buffer);
+    let n = read_full(&mut rt.stdin(), &mut buffer)?;
     let mut list = [0u64; 20500];
     let mut values = [0u64; 256];
     let mut memory = [0u64; 384];
-    run(&buffer[..n], &mut list, &mut values, &mut memory);
+    run(&rt, &buffer[..n], &mut list, &mut values, &mut memory)
 }
 
-fn run(text: &[u8], list: &mut [u64], values: &mut [u64], memory: &mut [u64]) {
+fn run(
+    rt: &impl Print,
+    text: &[u8],
+    list: &mut [u64],
+    values: &mut [u64],
+    memory: &mut [u64],
+) -> io::Result<()> {
     let mut used = Used {
         list: 0,
         values: 0,
@@ -59,34 +65,36 @@ fn run(text: &[u8], list: &mut [u64], values: &mut [u64], memory: &mut [u64]) {
     };
     let mut at = 0;
     while at < text.len() {
-        let step = run_line(text, at, list, values, memory, used);
+        let step = run_line(rt, text, at, list, values, memory, used)?;
         if step.next <= at {
-            return;
+            return Ok(());
         }
         at = step.next;
         used = step.used;
     }
+    Ok(())
 }
 
 // One command.
 fn run_line(
+    rt: &impl Print,
     text: &[u8],
     at: usize,
     list: &mut [u64],
     values: &mut [u64],
     memory: &mut [u64],
     used: Used,
-) -> Step {
+) -> io::Result<Step> {
     let command = read_decimal(text, at);
     let from = command.next;
     let which = command.value;
     match which {
-        1 => run_lines(text, from, list, used, false),
-        2 => run_lines(text, from, list, used, true),
-        3 => run_value(text, from, values, used),
-        4 => run_memory(text, from, memory, used),
-        5 => run_ask(text, from, list, values, memory, used),
-        _ => run_keep(text, from, used),
+        1 => Ok(run_lines(text, from, list, used, false)),
+        2 => Ok(run_lines(text, from, list, used, true)),
+        3 => Ok(run_value(text, from, values, used)),
+        4 => Ok(run_memory(text, from, memory, used)),
+        5 => run_ask(rt, text, from, list, values, memory, used),
+        _ => Ok(run_keep(text, from, used)),
     }
 }
 
@@ -214,29 +222,31 @@ fn least(asked: u64, there: usize) -> usize {
 }
 
 fn run_ask(
+    rt: &impl Print,
     text: &[u8],
     at: usize,
     list: &[u64],
     values: &[u64],
     memory: &[u64],
     used: Used,
-) -> Step {
+) -> io::Result<Step> {
     let words = read_decimal(text, at);
     let of_values = read_decimal(text, words.next);
     let of_memory = read_decimal(text, of_values.next);
     let lines = read_decimal(text, of_memory.next);
     let place = read_decimal(text, lines.next);
-    show_answer(evaluate(
+    let answer = evaluate(
         first_words(list, words.value),
         lines.value as usize,
         first_words(values, of_values.value),
         first_words(memory, of_memory.value),
         NodeRef(place.value as usize),
-    ));
-    Step {
+    );
+    show_answer(rt, answer)?;
+    Ok(Step {
         used,
         next: place.next,
-    }
+    })
 }
 
 // As many as are asked for, or all that there are.
@@ -248,15 +258,15 @@ fn first_words(s: &[u64], n: u64) -> &[u64] {
     &s[0..e]
 }
 
-fn show_answer(answer: Evaluated) {
+fn show_answer(rt: &impl Print, answer: Evaluated) -> io::Result<()> {
     match answer {
         Evaluated::Refused(number) => {
-            io::write_all(STDOUT_FILENO, b"refused ");
-            show(number, b"\n");
+            rt.write_all(b"refused ")?;
+            show(rt, number, b"\n")
         }
         Evaluated::Value(value, visits) => {
-            show(value, b" ");
-            show(visits, b"\n");
+            show(rt, value, b" ")?;
+            show(rt, visits, b"\n")
         }
     }
 }

@@ -252,7 +252,14 @@ module _ (limit : ℕ) where
       → Alike (walk Judged no_line judge js xs) (walk Looks no_looks (looks_of limit env) ls xs) (walk Spent no_spent (spent_of env) ss xs)
   unfolding walk
   alike_walk env a [] h = a
-  alike_walk env {js} a (o ∷ xs) h = alike_walk env (then a (judged_same env a o) (next_fits env a o (is_true _ (right_next js o xs h)))) xs h
+  alike_walk env {js} {ls} {ss} a (o ∷ xs) h =
+      alike_walk env
+      {js = js ++ (judge (length js) (map_op (λ p. get_or js p no_line) o) ∷ [])}
+      {ls = ls ++ (looks_of limit env (length ls) (map_op (λ p. get_or ls p no_looks) o) ∷ [])}
+      {ss = ss ++ (spent_of env (length ss) (map_op (λ p. get_or ss p no_spent) o) ∷ [])}
+      (then a (judged_same env a o) (next_fits env a o (is_true _ (right_next js o xs h))))
+      xs
+      h
 
 -- ---- the theorem
 

@@ -192,7 +192,12 @@ module _ (limit : ℕ) where
       → Alike (walk Looks no_looks (looks_of limit env) ls xs) (walk Val.Value (number 0) (eval_op env) vs xs)
   unfolding walk
   alike_walk env a [] = a
-  alike_walk env {ls} {vs} a (o ∷ xs) = alike_walk env (then a next_told) xs
+  alike_walk env {ls} {vs} a (o ∷ xs) =
+      alike_walk env
+      {ls = ls ++ (looks_of limit env (length ls) (map_op (λ p. get_or ls p no_looks) o) ∷ [])}
+      {vs = vs ++ (eval_op env (length vs) (map_op (λ p. get_or vs p (number 0)) o) ∷ [])}
+      (then a next_told)
+      xs
     where
       next_told : Told limit (looks_of limit env (length ls) (map_op (λ p. get_or ls p no_looks) o)) (eval_op env (length vs) (map_op (λ p. get_or vs p (number 0)) o))
       next_told = rw (← alike_length a) (line_told limit env (length ls) (λ q. get_or ls q no_looks) (λ q. get_or vs q (number 0)) (alike_at a) o)

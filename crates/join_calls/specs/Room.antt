@@ -13,17 +13,17 @@ edge_lines origin zero = own_lines origin + cond zero 0 1
 
 -- whether the flow after an edge is the zero bit's own place
 abbrev pub zero_after : ℕ → Bool → Bool → Bool
-zero_after origin zero flagIsZero = cond (eqb origin branch_origin) false (cond (eqb origin syscall_origin) false (zero && flagIsZero))
+zero_after origin zero flag_is_zero = cond (eqb origin branch_origin) false (cond (eqb origin syscall_origin) false (zero && flag_is_zero))
 
 -- the lines of edges, and whether the flow after them is the zero bit's own place
-module _ {A : Type 0} (flagIsZero : ℕ → Bool) where
+module _ {A : Type 0} (flag_is_zero : ℕ → Bool) where
   unfoldable pub edges_lines : Bool → List (Edge A) → ℕ
   edges_lines zero [] = 0
-  edges_lines zero (x ∷ xs) = edge_lines x.origin zero + edges_lines (zero_after x.origin zero (flagIsZero x.from)) xs
+  edges_lines zero (x ∷ xs) = edge_lines x.origin zero + edges_lines (zero_after x.origin zero (flag_is_zero x.from)) xs
 
   unfoldable pub zero_after_all : Bool → List (Edge A) → Bool
   zero_after_all zero [] = zero
-  zero_after_all zero (x ∷ xs) = zero_after_all (zero_after x.origin zero (flagIsZero x.from)) xs
+  zero_after_all zero (x ∷ xs) = zero_after_all (zero_after x.origin zero (flag_is_zero x.from)) xs
 
 -- the lines of so many dispatches
 abbrev pub dispatch_lines : Bool → ℕ → ℕ
@@ -36,15 +36,15 @@ edge_exceeds l origin from =
     ltb l.lines (edge_lines origin l.zero) || (ltb l.names (length (edge_name origin from)) || ltb l.sequentials (nexts_by origin))
 
 abbrev pub left_after : Left → ℕ → ℕ → Bool → Left
-left_after l origin from flagIsZero = record {
+left_after l origin from flag_is_zero = record {
   lines = l.lines - edge_lines origin l.zero;
   names = l.names - length (edge_name origin from);
   sequentials = l.sequentials - nexts_by origin;
-  zero = zero_after origin l.zero flagIsZero;
+  zero = zero_after origin l.zero flag_is_zero;
 }
 
 -- edges and dispatches append more than there is room for
 unfoldable pub exceeding : (ℕ → Bool) → Left → List (Edge ℕ) → ℕ → Bool
-exceeding flagIsZero l xs n =
-    ltb l.lines (edges_lines flagIsZero l.zero xs + dispatch_lines (zero_after_all flagIsZero l.zero xs) n)
+exceeding flag_is_zero l xs n =
+    ltb l.lines (edges_lines flag_is_zero l.zero xs + dispatch_lines (zero_after_all flag_is_zero l.zero xs) n)
     || (ltb l.names (length (names_of xs)) || ltb l.sequentials (nexts_of xs))

@@ -11,7 +11,7 @@ ghost use Rattle.join.specs.Listed.{append_listed};
 ghost use Rattle.builder.specs.Prog.{exec};
 ghost use Rattle.state.specs.Roles.{role, zero_bit, role_count};
 ghost use Rattle.btor2_list.specs.Limits.{most_lines};
-ghost use Rattle.btor2_list.specs.Record.{capacity as capacityOf};
+ghost use Rattle.btor2_list.specs.Record.{capacity as capacity_of};
 ghost use Rattle.join.specs.Refusal.{join_lent, join_input, join_program, join_refusal};
 ghost use Rattle.join.specs.Join.{join_answer, held_after, join_store, join_settled, joining};
 ghost use Rattle.join.specs.Words.{given_join, joining_words};
@@ -235,8 +235,8 @@ fn counts_out(
 
 // What room is left of storage of these lengths.
 fn room_left(list: usize, names: usize, sequentials: usize, a: Asked, h: JoinHeld) -> Left
-    requires { HeldWithin (capacityOf list) names sequentials h }
-    ensures { result ≡ left_of (capacityOf list) names sequentials h a }
+    requires { HeldWithin (capacity_of list) names sequentials h }
+    ensures { result ≡ left_of (capacity_of list) names sequentials h a }
 {
     let state = h.state;
     let t = state.tally;

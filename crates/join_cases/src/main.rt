@@ -23,11 +23,13 @@ ghost use Rattle.std.specs.Prelude.{◌<◌, ◌≤◌};
 
 use btor2::NodeRef;
 use builder::Tally;
-use cases::{read_counts, read_decimal, read_record, read_role, show, show_lines, show_numbers};
+use cases::{
+    read_counts, read_decimal, read_full, read_record, read_role, show, show_lines, show_numbers,
+};
 use edges::{EDGE, InEdge};
 use join::{Asked, JoinHeld, Joined};
-use libc::{STDIN_FILENO, STDOUT_FILENO};
 use state::{Counts, ROLES, State};
+use std::io;
 
 // What is given lies in one array, in an area for each kind of words.
 const EDGES: usize = 0;
@@ -92,9 +94,9 @@ struct Went {
     next: usize,
 }
 
-fn main() {
+fn main(rt: HostRuntime) -> io::Result<()> {
     let mut buffer = [0u8; 262144];
-    let n = io::read_full(STDIN_FILENO, &mut buffer);
+    let n = read_full(&mut rt.stdin(), &mut buffer)?;
     // Full of a number that no call puts everywhere, so that a word which a call clears shows.
     let mut list = [46u64; 4000];
     let mut names = [46u8; 2048];
@@ -102,30 +104,33 @@ fn main() {
     let mut scratch = [46u64; SCRATCH];
     let mut words = [0u64; 256];
     run(
+        &rt,
         &buffer[..n],
         &mut list,
         &mut names,
         &mut sequentials,
         &mut scratch,
         &mut words,
-    );
+    )
 }
 
 fn run(
+    rt: &impl Print,
     text: &[u8],
     list: &mut [u64],
     names: &mut [u8],
     sequentials: &mut [u64],
     scratch: &mut [u64],
     words: &mut [u64],
-) {
+) -> io::Result<()> {
     let mut desk = empty();
     let mut at = 0;
     while at < text.len() {
-        let went = run_line(text, at, list, names, sequentials, scratch, words, desk);
+        let went = run_line(rt, text, at, list, names, sequentials, scratch, words, desk)?;
         at = next_start(at, went.next, text.len());
         desk = went.desk;
     }
+    Ok(())
 }
 
 // Where the command after one at `at` starts. One that does not go on is the last.
@@ -173,6 +178,7 @@ fn empty() -> Desk {
 
 // One command.
 fn run_line(
+    rt: &impl Print,
     text: &[u8],
     at: usize,
     list: &mut [u64],
@@ -181,27 +187,37 @@ fn run_line(
     scratch: &mut [u64],
     words: &mut [u64],
     desk: Desk,
-) -> Went {
+) -> io::Result<Went> {
     let command = read_decimal(text, at);
     let from = command.next;
     let which = command.value;
     if which == 1 {
-        return run_join(text, from, list, names, sequentials, scratch, words, desk);
+        return run_join(
+            rt,
+            text,
+            from,
+            list,
+            names,
+            sequentials,
+            scratch,
+            words,
+            desk,
+        );
     }
     if which == 2 {
         let next = run_put(text, from, list);
-        return Went { desk, next };
+        return Ok(Went { desk, next });
     }
     if which < 5 {
-        return run_state(text, from, which, desk);
+        return Ok(run_state(text, from, which, desk));
     }
     if which < 9 {
-        return run_give(text, from, which, words, desk);
+        return Ok(run_give(text, from, which, words, desk));
     }
     if which < 11 {
-        return run_nodes(text, from, which, desk);
+        return Ok(run_nodes(text, from, which, desk));
     }
-    run_scratch(text, from, desk)
+    Ok(run_scratch(text, from, desk))
 }
 
 fn run_put(text: &[u8], at: usize, list: &mut [u64]) -> usize {
@@ -464,6 +480,7 @@ fn word_or_none(words: &[u64], n: usize) -> u64 {
 //
 
 fn run_join(
+    rt: &impl Print,
     text: &[u8],
     at: usize,
     list: &mut [u64],
@@ -472,9 +489,10 @@ fn run_join(
     scratch: &mut [u64],
     words: &[u64],
     desk: Desk,
-) -> Went {
+) -> io::Result<Went> {
     let flow = read_decimal(text, at);
     let held = join_shown(
+        rt,
         list,
         names,
         sequentials,
@@ -482,15 +500,16 @@ fn run_join(
         words,
         desk,
         NodeRef(flow.value as usize),
-    );
+    )?;
     let after = with_held(desk, held);
-    Went {
+    Ok(Went {
         desk: after,
         next: flow.next,
-    }
+    })
 }
 
 fn join_shown(
+    rt: &impl Print,
     list: &mut [u64],
     names: &mut [u8],
     sequentials: &mut [u64],
@@ -498,10 +517,10 @@ fn join_shown(
     words: &[u64],
     desk: Desk,
     flow: NodeRef,
-) -> JoinHeld {
+) -> io::Result<JoinHeld> {
     let joined = join_with(list, names, sequentials, scratch, words, desk, flow);
-    show_joined(list, names, sequentials, scratch, desk, joined);
-    joined.held
+    show_joined(rt, list, names, sequentials, scratch, desk, joined)?;
+    Ok(joined.held)
 }
 
 // The call, with the first words and bytes of each list lent, and as many records as the words of the edges hold.
@@ -598,46 +617,47 @@ fn at_most(n: usize, most: usize) -> usize
 
 // What a call changed: the desk before it says where it wrote.
 fn show_joined(
+    rt: &impl Print,
     list: &[u64],
     names: &[u8],
     sequentials: &[u64],
     scratch: &[u64],
     desk: Desk,
     joined: Joined,
-) {
+) -> io::Result<()> {
     let before = desk.held;
     let state = before.state;
     let old = state.tally;
     let held = joined.held;
     let after = held.state;
     let new = after.tally;
-    io::write_all(STDOUT_FILENO, b"refusal ");
-    show(joined.refusal, b"\n");
+    rt.write_all(b"refusal ")?;
+    show(rt, joined.refusal, b"\n")?;
     if joined.refusal == 0 {
-        show_lines(list, names, old.lines, new.lines);
-        show_listed(sequentials, before.sequentials, held.sequentials);
-        io::write_all(STDOUT_FILENO, b"flow ");
-        show(joined.flow.0 as u64, b"\n");
+        show_lines(rt, list, names, old.lines, new.lines)?;
+        show_listed(rt, sequentials, before.sequentials, held.sequentials)?;
+        rt.write_all(b"flow ")?;
+        show(rt, joined.flow.0 as u64, b"\n")?;
     }
-    show_counts(after, held.sequentials);
-    show_left(list, names, sequentials, after, scratch);
+    show_counts(rt, after, held.sequentials)?;
+    show_left(rt, list, names, sequentials, after, scratch)
 }
 
 // The sequentials from one place up to another.
-fn show_listed(sequentials: &[u64], from: usize, to: usize) {
-    io::write_all(STDOUT_FILENO, b"sequentials");
+fn show_listed(rt: &impl Print, sequentials: &[u64], from: usize, to: usize) -> io::Result<()> {
+    rt.write_all(b"sequentials")?;
     let mut at = 0;
     while at < sequentials.len() {
         if (from <= at) & (at < to) {
-            io::write_all(STDOUT_FILENO, b" ");
-            io::print_decimal(STDOUT_FILENO, sequentials[at]);
+            rt.write_all(b" ")?;
+            rt.print(sequentials[at])?;
         }
         at += 1;
     }
-    io::write_all(STDOUT_FILENO, b"\n");
+    rt.write_all(b"\n")
 }
 
-fn show_counts(state: State, listed: usize) {
+fn show_counts(rt: &impl Print, state: State, listed: usize) -> io::Result<()> {
     let tally = state.tally;
     let counts = state.counts;
     let numbers = [
@@ -649,12 +669,19 @@ fn show_counts(state: State, listed: usize) {
         counts.bads as u64,
         listed as u64,
     ];
-    io::write_all(STDOUT_FILENO, b"counts ");
-    show_numbers(&numbers);
+    rt.write_all(b"counts ")?;
+    show_numbers(rt, &numbers)
 }
 
 // A number for each area, which a change of any one word changes.
-fn show_left(list: &[u64], names: &[u8], sequentials: &[u64], state: State, scratch: &[u64]) {
+fn show_left(
+    rt: &impl Print,
+    list: &[u64],
+    names: &[u8],
+    sequentials: &[u64],
+    state: State,
+    scratch: &[u64],
+) -> io::Result<()> {
     let roles = state.roles;
     let numbers = [
         digest(list),
@@ -663,8 +690,8 @@ fn show_left(list: &[u64], names: &[u8], sequentials: &[u64], state: State, scra
         digest_roles(roles),
         digest(scratch),
     ];
-    io::write_all(STDOUT_FILENO, b"left ");
-    show_numbers(&numbers);
+    rt.write_all(b"left ")?;
+    show_numbers(rt, &numbers)
 }
 
 fn digest(words: &[u64]) -> u64 {

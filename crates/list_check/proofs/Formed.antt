@@ -1,6 +1,6 @@
 -- Refusal 11 over the lines of the words is that of each record with the lookups from its place. Assumes nothing.
 use Prim.Native.Nat.{ℕ, ◌≤◌, ◌<◌}
-use mathlib.Core.Path.{◌≡◌, refl, sym, ◌∙◌, ap, fun_ext}
+use mathlib.Core.Path.{◌≡◌, ◌∙◌, ap, fun_ext}
 use mathlib.Core.Bool.{Bool, false}
 use mathlib.Core.Bool as B
 use mathlib.Core.List.{List}
@@ -9,15 +9,13 @@ use borrow.Author.Tests.{lt-ltb, le-ltb, ltb-false}
 use lib.ListN.{length, length-map, get_or-map}
 use Rattle.bitvec.proofs.Truth.{neither}
 use Rattle.bitvec.proofs.Base.{by_le}
-use Rattle.btor2.specs.declared.MaybeSort.{MaybeSort}
-use Rattle.btor2.specs.declared.MaybeSort.TheVariants.{Sort, NoSort}
-use Rattle.btor2.specs.Op.{Op, carried}
+use Rattle.btor2.specs.Op.{Op}
 use Rattle.btor2_list.specs.Record.{record_at, capacity}
 use Rattle.btor2_list.specs.Node.{Node, no_node, op_of}
 use Rattle.btor2_list.specs.View.{view}
 use Rattle.btor2_list.proofs.View.{view-length, view_at}
 use Rattle.list_check.specs.Lines.{ops, op_at, some, any, past_words}
-use Rattle.list_check.specs.Formed.{is_unknown, ext_from_memory, operands, name_of, name_outside, has_value, earlier_value, op_unformed, line_unformed, unformed, unformed_words}
+use Rattle.list_check.specs.Formed.{is_unknown, ext_from_memory, operands, name_of, name_outside, earlier_value, op_unformed, line_unformed, unformed, unformed_words}
 use Rattle.list_check.specs.Operand.{no_value_at}
 use Rattle.list_check.proofs.Some.{some_same, some_none}
 

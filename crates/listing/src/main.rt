@@ -2,6 +2,8 @@
 // tools/listing_example.py made them, and what is to be written.
 #![tactic(auto)]
 
-fn main() {
-    listing_run::list_instructions();
+use std::io;
+
+fn main(rt: HostRuntime) -> io::Result<()> {
+    listing_run::list_instructions(&mut rt.stdin(), &mut rt.stdout())
 }

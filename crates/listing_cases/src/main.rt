@@ -2,6 +2,8 @@
 // to be written.
 #![tactic(auto)]
 
-fn main() {
-    listing_run::list_instructions();
+use std::io;
+
+fn main(rt: HostRuntime) -> io::Result<()> {
+    listing_run::list_instructions(&mut rt.stdin(), &mut rt.stdout())
 }

@@ -4,15 +4,18 @@
 
 mod lines;
 
-ghost use Rattle.std.specs.Prelude.{◌≡◌, true, length};
+ghost use Rattle.std.specs.Prelude.{◌≡◌, ◌-◌, ◌^◌, ◌<◌, true, length, IfOk, OnOk, IfSome, MatchResult};
+ghost use Rattle.std.specs.Io.KnownBytes.{Appends};
 ghost use Rattle.lowering.specs.Lowering.{lent};
+ghost use Rattle.listing_bytes.specs.Listing.{listing};
 ghost use Rattle.listing_bytes.specs.Storage.{out_room};
 ghost use Rattle.listing_bytes.specs.Pieces.{progress, take_bytes, start};
-ghost use Rattle.listing_run.specs.Turn.{Reaches};
+ghost use Rattle.listing_run.specs.Turn.{Reaches, IsReached, Lists};
 
-use libc::{STDIN_FILENO, STDOUT_FILENO};
 use lines::{end_input, start_reading, take_line};
 use listing_bytes::Reading;
+use std::io;
+use std::io::{Read, Write};
 
 // Every line may be a bad one, with the longest name. An instruction has at most two edges and one dispatch.
 const LINES: usize = 1024;
@@ -38,16 +41,17 @@ const OUT: usize = 4096;
 // For one read.
 const PIECE: usize = 4096;
 
-// What has been read, whether more is to be read, and whether all output was written.
+// What has been read, and whether more is to be read.
 #[derive(Clone, Copy)]
 struct Run {
     reading: Reading,
     more: bool,
-    written: bool,
 }
 
-// From standard input to standard output.
-pub fn list_instructions() {
+// From a reader to a writer, up to the first call of either that fails: after it nothing more is written.
+pub fn list_instructions<R: Read, W: Write>(reader: &mut R, writer: &mut W) -> io::Result<()>
+    ensures { OnOk result (IfSome (R.remaining reader.old) (λ input. length input < 2 ^ 64 - 1 → Appends (W.contents writer.old) (W.contents writer.new) (listing input))) }
+{
     let mut list = [0u64; LIST];
     let mut names = [0u8; NAMES];
     let mut edges = [0u64; EDGES];
@@ -57,6 +61,8 @@ pub fn list_instructions() {
     let mut out = [0u8; OUT];
     listing_start::put_start(&mut list);
     let run = read_all(
+        reader,
+        writer,
         &mut list,
         &mut names,
         &mut edges,
@@ -65,27 +71,26 @@ pub fn list_instructions() {
         &mut line,
         &mut out,
         start_reading(),
+    )?;
+    let after = run.reading;
+    let e = end_input(
+        &mut list,
+        &mut names,
+        &mut edges,
+        &mut dispatches,
+        &mut bads,
+        &line,
+        &mut out,
+        after,
     );
-    // After a write that failed nothing more is written.
-    if run.written {
-        let after = run.reading;
-        let e = end_input(
-            &mut list,
-            &mut names,
-            &mut edges,
-            &mut dispatches,
-            &mut bads,
-            &line,
-            &mut out,
-            after,
-        );
-        let n = e.length;
-        io::write_all(STDOUT_FILENO, &out[..n]);
-    }
+    let n = e.length;
+    writer.write_all(&out[..n])
 }
 
 // Reads to the input's end, from the listing's start, with its storage.
-fn read_all(
+fn read_all<R: Read, W: Write>(
+    reader: &mut R,
+    writer: &mut W,
     list: &mut [u64],
     names: &mut [u8],
     edges: &mut [u64],
@@ -94,28 +99,33 @@ fn read_all(
     line: &mut [u8],
     out: &mut [u8],
     reading: Reading,
-) -> Run
+) -> io::Result<Run>
     requires reading_value { progress (lent list.old names.old edges.old dispatches.old bads.old) line.old reading ≡ start }
     requires out_len { length out.old ≡ out_room }
-    ensures { Reaches (progress (lent list.old names.old edges.old dispatches.old bads.old) line.old reading) (progress (lent list.new names.new edges.new dispatches.new bads.new) line.new result.reading) }
+    ensures reached { MatchResult result (λ run. Reaches (progress (lent list.old names.old edges.old dispatches.old bads.old) line.old reading) (progress (lent list.new names.new edges.new dispatches.new bads.new) line.new run.reading)) (λ _. IsReached (progress (lent list.old names.old edges.old dispatches.old bads.old) line.old reading) (lent list.new names.new edges.new dispatches.new bads.new) line.new) }
+    ensures listed { IfOk result (λ run. Lists (R.remaining reader.old) (R.remaining reader.new) (W.contents writer.old) (W.contents writer.new) (progress (lent list.old names.old edges.old dispatches.old bads.old) line.old reading) (progress (lent list.new names.new edges.new dispatches.new bads.new) line.new run.reading) run.more (2 ^ 64 - 1)) }
 {
     let mut run = Run {
         reading,
         more: true,
-        written: true,
     };
     // A proved loop ends, and nothing says that an input does: this many turns no run uses up.
-    let mut turns = u64::MAX;
-    while turns > 0 && run.more {
+    for _ in 0..u64::MAX {
+        if !run.more {
+            return Ok(run);
+        }
         let now = run.reading;
-        run = read_piece(list, names, edges, dispatches, bads, line, out, now);
-        turns -= 1;
+        run = read_piece(
+            reader, writer, list, names, edges, dispatches, bads, line, out, now,
+        )?;
     }
-    run
+    Ok(run)
 }
 
 // Reads once, and takes what came.
-fn read_piece(
+fn read_piece<R: Read, W: Write>(
+    reader: &mut R,
+    writer: &mut W,
     list: &mut [u64],
     names: &mut [u8],
     edges: &mut [u64],
@@ -124,21 +134,21 @@ fn read_piece(
     line: &mut [u8],
     out: &mut [u8],
     reading: Reading,
-) -> Run
+) -> io::Result<Run>
     requires { length out.old ≡ out_room }
-    ensures { Reaches (progress (lent list.old names.old edges.old dispatches.old bads.old) line.old reading) (progress (lent list.new names.new edges.new dispatches.new bads.new) line.new result.reading) }
+    ensures reached { MatchResult result (λ run. Reaches (progress (lent list.old names.old edges.old dispatches.old bads.old) line.old reading) (progress (lent list.new names.new edges.new dispatches.new bads.new) line.new run.reading)) (λ _. IsReached (progress (lent list.old names.old edges.old dispatches.old bads.old) line.old reading) (lent list.new names.new edges.new dispatches.new bads.new) line.new) }
+    ensures listed { IfOk result (λ run. Lists (R.remaining reader.old) (R.remaining reader.new) (W.contents writer.old) (W.contents writer.new) (progress (lent list.old names.old edges.old dispatches.old bads.old) line.old reading) (progress (lent list.new names.new edges.new dispatches.new bads.new) line.new run.reading) run.more 1) }
 {
     let mut piece = [0u8; PIECE];
-    let got = libc::read(STDIN_FILENO, &mut piece);
-    let n = io::count(got, &piece);
+    let n = reader.read(&mut piece)?;
     if n == 0 {
-        return Run {
+        return Ok(Run {
             reading,
             more: false,
-            written: true,
-        };
+        });
     }
     take_piece(
+        writer,
         list,
         names,
         edges,
@@ -152,7 +162,8 @@ fn read_piece(
 }
 
 // Takes a piece line by line, and writes what comes of each, up to the first write that fails.
-fn take_piece(
+fn take_piece<W: Write>(
+    writer: &mut W,
     list: &mut [u64],
     names: &mut [u8],
     edges: &mut [u64],
@@ -162,10 +173,12 @@ fn take_piece(
     out: &mut [u8],
     piece: &[u8],
     reading: Reading,
-) -> Run
+) -> io::Result<Run>
     requires { length out.old ≡ out_room }
-    ensures reached { Reaches (progress (lent list.old names.old edges.old dispatches.old bads.old) line.old reading) (progress (lent list.new names.new edges.new dispatches.new bads.new) line.new result.reading) }
-    ensures whole { result.written ≡ true → progress (lent list.new names.new edges.new dispatches.new bads.new) line.new result.reading ≡ (take_bytes piece.now (progress (lent list.old names.old edges.old dispatches.old bads.old) line.old reading)).progress }
+    ensures reached { MatchResult result (λ run. Reaches (progress (lent list.old names.old edges.old dispatches.old bads.old) line.old reading) (progress (lent list.new names.new edges.new dispatches.new bads.new) line.new run.reading)) (λ _. IsReached (progress (lent list.old names.old edges.old dispatches.old bads.old) line.old reading) (lent list.new names.new edges.new dispatches.new bads.new) line.new) }
+    ensures whole { IfOk result (λ run. progress (lent list.new names.new edges.new dispatches.new bads.new) line.new run.reading ≡ (take_bytes piece.now (progress (lent list.old names.old edges.old dispatches.old bads.old) line.old reading)).progress) }
+    ensures wrote { OnOk result (Appends (W.contents writer.old) (W.contents writer.new) (take_bytes piece.now (progress (lent list.old names.old edges.old dispatches.old bads.old) line.old reading)).text) }
+    ensures more { IfOk result (λ run. run.more ≡ true) }
 {
     let mut now = reading;
     let mut from = 0;
@@ -175,19 +188,12 @@ fn take_piece(
         );
         let after = t.reading;
         let n = t.length;
-        if !io::write_all(STDOUT_FILENO, &out[..n]) {
-            return Run {
-                reading: after,
-                more: false,
-                written: false,
-            };
-        }
+        writer.write_all(&out[..n])?;
         now = after;
         from = t.next;
     }
-    Run {
+    Ok(Run {
         reading: now,
         more: true,
-        written: true,
-    }
+    })
 }

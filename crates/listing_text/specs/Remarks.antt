@@ -1,5 +1,5 @@
 -- What the listing says of edges, dispatches and refusals (document 01, "The listing program has its own start").
-use Rattle.std.specs.Prelude.{ℕ, zero, suc, ◌+◌, ◌-◌, ◌*◌, ◌/◌, ◌^◌, cond, List, [], ◌∷◌, ◌++◌, eqb, ltb, length, get_or}
+use Rattle.std.specs.Prelude.{ℕ, zero, suc, ◌+◌, ◌-◌, ◌*◌, ◌/◌, ◌^◌, cond, List, [], ◌++◌, eqb, ltb, length, get_or}
 use Prim.Native.String.{String}
 use Rattle.btor2_list.specs.Node.{Node}
 use Rattle.line_text.specs.Line.{nid_at}

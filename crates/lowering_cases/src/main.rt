@@ -13,56 +13,61 @@
 
 use btor2::NodeRef;
 use cases::{
-    Step, read_counts, read_decimal, read_record, read_role, show, show_counts, show_lines,
+    Step, read_counts, read_decimal, read_full, read_record, read_role, show, show_counts,
+    show_lines,
 };
-use libc::{STDIN_FILENO, STDOUT_FILENO};
 use riscv::Instruction;
 use state::{Counts, REGISTER_FLOWS, ROLES, State};
+use std::io;
 
 // The flow of x1, the first.
 const FIRST_FLOW: usize = REGISTER_FLOWS + 1;
 
-fn main() {
+fn main(rt: HostRuntime) -> io::Result<()> {
     let mut buffer = [0u8; 65536];
-    let n = io::read_full(STDIN_FILENO, &mut buffer);
+    let n = read_full(&mut rt.stdin(), &mut buffer)?;
     let mut list = [0u64; 4000];
     let mut names = [0u8; 1024];
     let mut edges = [0u64; 12];
     let mut dispatches = [0u64; 4];
     let mut bads = [0u64; 32];
     run(
+        &rt,
         &buffer[..n],
         &mut list,
         &mut names,
         &mut edges,
         &mut dispatches,
         &mut bads,
-    );
+    )
 }
 
 fn run(
+    rt: &impl Print,
     text: &[u8],
     list: &mut [u64],
     names: &mut [u8],
     edges: &mut [u64],
     dispatches: &mut [u64],
     bads: &mut [u64],
-) {
+) -> io::Result<()> {
     listing_start::put_start(list);
     let mut state = listing_start::start_state();
     let mut at = 0;
     while at < text.len() {
-        let step = run_line(text, at, list, names, edges, dispatches, bads, state);
+        let step = run_line(rt, text, at, list, names, edges, dispatches, bads, state)?;
         if step.next <= at {
-            return;
+            return Ok(());
         }
         at = step.next;
         state = step.state;
     }
+    Ok(())
 }
 
 // One command.
 fn run_line(
+    rt: &impl Print,
     text: &[u8],
     at: usize,
     list: &mut [u64],
@@ -71,42 +76,48 @@ fn run_line(
     dispatches: &mut [u64],
     bads: &mut [u64],
     state: State,
-) -> Step {
+) -> io::Result<Step> {
     let command = read_decimal(text, at);
     let from = command.next;
     let which = command.value;
     if which == 1 {
-        return run_lower(text, from, list, names, edges, dispatches, bads, state);
+        return run_lower(rt, text, from, list, names, edges, dispatches, bads, state);
     }
     if which == 2 {
         listing_start::put_start(list);
         let fresh = listing_start::start_state();
-        return Step {
+        return Ok(Step {
             state: fresh,
             next: from,
-        };
+        });
     }
     if which == 3 {
-        return read_counts(text, from, state);
+        return Ok(read_counts(text, from, state));
     }
     if which == 4 {
-        return read_role(text, from, state);
+        return Ok(read_role(text, from, state));
     }
     let next = if which == 5 {
         run_put(text, from, list)
     } else {
-        run_show(text, from, list, names)
+        run_show(rt, text, from, list, names)?
     };
-    Step { state, next }
+    Ok(Step { state, next })
 }
 
-fn run_show(text: &[u8], at: usize, list: &[u64], names: &[u8]) -> usize {
+fn run_show(
+    rt: &impl Print,
+    text: &[u8],
+    at: usize,
+    list: &[u64],
+    names: &[u8],
+) -> io::Result<usize> {
     let place = read_decimal(text, at);
     let from = place.value as usize;
     if from < list.len() {
-        show_lines(list, names, from, from + 1);
+        show_lines(rt, list, names, from, from + 1)?;
     }
-    place.next
+    Ok(place.next)
 }
 
 fn run_put(text: &[u8], at: usize, list: &mut [u64]) -> usize {
@@ -116,6 +127,7 @@ fn run_put(text: &[u8], at: usize, list: &mut [u64]) -> usize {
 }
 
 fn run_lower(
+    rt: &impl Print,
     text: &[u8],
     at: usize,
     list: &mut [u64],
@@ -124,7 +136,7 @@ fn run_lower(
     dispatches: &mut [u64],
     bads: &mut [u64],
     state: State,
-) -> Step {
+) -> io::Result<Step> {
     let address = read_decimal(text, at);
     let kind = read_decimal(text, address.next);
     let rd = read_decimal(text, kind.next);
@@ -153,16 +165,16 @@ fn run_lower(
     );
     let after = lowered.state;
     if lowered.refusal == 0 {
-        show_lowered(list, names, edges, dispatches, bads, state, after);
+        show_lowered(rt, list, names, edges, dispatches, bads, state, after)?;
     } else {
-        io::write_all(STDOUT_FILENO, b"refused ");
-        show(lowered.refusal, b"\n");
+        rt.write_all(b"refused ")?;
+        show(rt, lowered.refusal, b"\n")?;
     }
     let emptied = without_edges(after);
-    Step {
+    Ok(Step {
         state: emptied,
         next: flag.next,
-    }
+    })
 }
 
 // The next call writes its edges and dispatches from the front again.
@@ -184,6 +196,7 @@ fn without_edges(state: State) -> State {
 
 // What a call changed: the state before it says where it wrote.
 fn show_lowered(
+    rt: &impl Print,
     list: &[u64],
     names: &[u8],
     edges: &[u64],
@@ -191,75 +204,78 @@ fn show_lowered(
     bads: &[u64],
     before: State,
     after: State,
-) {
+) -> io::Result<()> {
     let old = before.tally;
     let new = after.tally;
     let from = before.counts;
     let to = after.counts;
-    show_lines(list, names, old.lines, new.lines);
-    show_edges(edges, from.edges, to.edges);
-    show_dispatches(dispatches, from.dispatches, to.dispatches);
-    show_bads(bads, from.bads, to.bads);
-    show_counts(new, to);
+    show_lines(rt, list, names, old.lines, new.lines)?;
+    show_edges(rt, edges, from.edges, to.edges)?;
+    show_dispatches(rt, dispatches, from.dispatches, to.dispatches)?;
+    show_bads(rt, bads, from.bads, to.bads)?;
+    show_counts(rt, new, to)?;
     let roles = after.roles;
-    show_flows(roles);
+    show_flows(rt, roles)
 }
 
-fn show_edges(edges: &[u64], from: usize, to: usize) {
+fn show_edges(rt: &impl Print, edges: &[u64], from: usize, to: usize) -> io::Result<()> {
     let mut at = from;
     while at < to {
-        show_edge(edges, at);
+        show_edge(rt, edges, at)?;
         at += 1;
     }
+    Ok(())
 }
 
-fn show_edge(edges: &[u64], at: usize) {
+fn show_edge(rt: &impl Print, edges: &[u64], at: usize) -> io::Result<()> {
     if edges.len() / edges::EDGE <= at {
-        return;
+        return Ok(());
     }
     let b = at * edges::EDGE;
-    io::write_all(STDOUT_FILENO, b"edge ");
-    show(edges[b], b" ");
-    show(edges[b + 1], b" ");
-    show(edges[b + 2], b" ");
-    show(edges[b + 3], b"\n");
+    rt.write_all(b"edge ")?;
+    show(rt, edges[b], b" ")?;
+    show(rt, edges[b + 1], b" ")?;
+    show(rt, edges[b + 2], b" ")?;
+    show(rt, edges[b + 3], b"\n")
 }
 
-fn show_dispatches(dispatches: &[u64], from: usize, to: usize) {
+fn show_dispatches(rt: &impl Print, dispatches: &[u64], from: usize, to: usize) -> io::Result<()> {
     let mut at = from;
     while at < to {
-        show_dispatch(dispatches, at);
+        show_dispatch(rt, dispatches, at)?;
         at += 1;
     }
+    Ok(())
 }
 
-fn show_dispatch(dispatches: &[u64], at: usize) {
+fn show_dispatch(rt: &impl Print, dispatches: &[u64], at: usize) -> io::Result<()> {
     if dispatches.len() / edges::DISPATCH <= at {
-        return;
+        return Ok(());
     }
     let b = at * edges::DISPATCH;
-    io::write_all(STDOUT_FILENO, b"dyn ");
-    show(dispatches[b], b" ");
-    show(dispatches[b + 1], b"\n");
+    rt.write_all(b"dyn ")?;
+    show(rt, dispatches[b], b" ")?;
+    show(rt, dispatches[b + 1], b"\n")
 }
 
-fn show_bads(bads: &[u64], from: usize, to: usize) {
+fn show_bads(rt: &impl Print, bads: &[u64], from: usize, to: usize) -> io::Result<()> {
     let mut at = from;
     while at < to {
         if at < bads.len() {
-            io::write_all(STDOUT_FILENO, b"bad ");
-            show(bads[at], b"\n");
+            rt.write_all(b"bad ")?;
+            show(rt, bads[at], b"\n")?;
         }
         at += 1;
     }
+    Ok(())
 }
 
-fn show_flows(roles: [NodeRef; ROLES]) {
-    io::write_all(STDOUT_FILENO, b"flows");
+fn show_flows(rt: &impl Print, roles: [NodeRef; ROLES]) -> io::Result<()> {
+    rt.write_all(b"flows")?;
     for role in FIRST_FLOW..ROLES {
-        io::write_all(STDOUT_FILENO, b" ");
+        rt.write_all(b" ")?;
         let place = roles[role];
-        io::print_decimal(STDOUT_FILENO, place.0 as u64);
+        rt.print(place.0 as u64)?;
     }
-    io::write_all(STDOUT_FILENO, b"\n");
+    rt.write_all(b"\n")
 }

@@ -2,7 +2,7 @@
 #![tactic(auto)]
 
 ghost use Rattle.std.specs.Prelude.{◌≡◌, cond, not, ◌&&◌, eqb, ltb, length, ◌+◌};
-ghost use Rattle.lowering_refusals.specs.Refusal.{needs_of, needs as needsAt, room_out, tests_of_record};
+ghost use Rattle.lowering_refusals.specs.Refusal.{needs_of, needs as needs_at, room_out, tests_of_record};
 ghost use Rattle.btor2.specs.declared.NodeType.TheVariants.{Bit};
 ghost use Rattle.btor2.specs.Sort.{sort_number};
 ghost use Rattle.btor2_list.specs.Look.{look_at};
@@ -80,7 +80,7 @@ pub fn weigh(
     flag: NodeRef,
 ) -> Weighed
     ensures refusal { result.refusal ≡ first (tests_of_record list.now room t c i address flag.0) }
-    ensures needs { result.needs ≡ needsAt i address }
+    ensures needs { result.needs ≡ needs_at i address }
     ensures class { result.class ≡ class_at (kind_at i.kind) }
     ensures zeros { result.zeros ≡ zeros_of i }
 {
@@ -108,7 +108,7 @@ fn refuse_record(
     address: u64,
     flag: NodeRef,
 ) -> u64
-    requires { (needs ≡ needsAt i address) × (class ≡ class_at (kind_at i.kind)) × (z ≡ zeros_of i) }
+    requires { (needs ≡ needs_at i address) × (class ≡ class_at (kind_at i.kind)) × (z ≡ zeros_of i) }
     ensures { result ≡ first (tests_of_record list.now room t c i address flag.0) }
 {
     let number = riscv_rows::check(i);

@@ -8,7 +8,7 @@ use Rattle.bitvec.specs.Smtlib as Smt
 use Rattle.btor2.specs.Op.{Op, map_op}
 use Rattle.btor2.specs.Value.{Value, number, binary, Env, eval_op}
 use Rattle.models.specs.Places.{Outcome, nothing, register, memory, branch}
-use Rattle.riscv.specs.Manual.{Effect, nothing as noEffect, sets_rd, sets_memory}
+use Rattle.riscv.specs.Manual.{Effect, nothing as no_effect, sets_rd, sets_memory}
 use Rattle.riscv.specs.Memory.{cells_with}
 use Rattle.lowering_laws.proofs.EachKind.{Reading}
 use Rattle.lowering_laws.proofs.Template.{Role, flag, memory_node, register_flow, memory_flow, Ref, map_outcome}
@@ -37,10 +37,10 @@ module _ (env : Env) (n : ℕ) (of_role : Role → Value) where
 
   -- d: rd is x0, which takes no value
   abbrev pub Agrees : Bool → Effect → Outcome Value → Type 0
-  Agrees d noEffect nothing = Unit {0}
-  Agrees d noEffect (register w) = ⊥
-  Agrees d noEffect (memory w) = ⊥
-  Agrees d noEffect (branch w v) = Unit {0}
+  Agrees d no_effect nothing = Unit {0}
+  Agrees d no_effect (register w) = ⊥
+  Agrees d no_effect (memory w) = ⊥
+  Agrees d no_effect (branch w v) = Unit {0}
   Agrees d (sets_rd x) nothing = T d
   Agrees d (sets_rd x) (register w) = Flowed (of_role flag) (of_role register_flow) w (λ v. v.num ≡ x)
   Agrees d (sets_rd x) (memory w) = ⊥

@@ -40,8 +40,8 @@ divw_quotient x y = sext 32 64 (cond (eqb (low32 y) 0) (2 ^ 32 - 1) (quot 32 (lo
 
 -- ---- Div
 
-by_zero : (x : ℕ) → bvsdiv 64 x 0 ≡ cond (negative 64 x) 1 (2 ^ 64 - 1)
-by_zero x =
+sdiv_by_zero : (x : ℕ) → bvsdiv 64 x 0 ≡ cond (negative 64 x) 1 (2 ^ 64 - 1)
+sdiv_by_zero x =
     by_le (2 ^ 63) x
     (λ l. sdiv_zero_neg 64 (lit< tt) l ∙ sym (ap (λ t. cond t 1 (2 ^ 64 - 1)) (neg_yes 64 l)))
     (λ l. sdiv_zero_pos 64 l ∙ sym (ap (λ t. cond t 1 (2 ^ 64 - 1)) (neg_no 64 l)))
@@ -50,7 +50,7 @@ pub div_given : (x y : ℕ) → x < 2 ^ 64 → y < 2 ^ 64 → bvsdiv 64 x y ≡ 
 div_given x y hx hy = go (eqb y 0) refl
   where
     go : (t : Bool) → eqb y 0 ≡ t → bvsdiv 64 x y ≡ cond ((t || false) && negative 64 x) 1 (cond t (2 ^ 64 - 1) (quot 64 x y))
-    go true q = ap (bvsdiv 64 x) (eqb-true y 0 q) ∙ by_zero x
+    go true q = ap (bvsdiv 64 x) (eqb-true y 0 q) ∙ sdiv_by_zero x
     go false q = Word.div x y hx hy (positive y q)
 
 -- ---- Divw
@@ -69,7 +69,7 @@ module _ (x y : ℕ) where
   word_by_zero : low32 y ≡ 0 → bvsdiv 64 (extended x) (extended y) ≡ cond (negative 32 (low32 x)) 1 (2 ^ 64 - 1)
   word_by_zero e =
       rw (Word.low32 x, Word.low32 y, sext_pos 32 64 y (omega arith), e)
-      (by_zero (sext 32 64 x) ∙ ap (λ t. cond t 1 (2 ^ 64 - 1)) (extended_sign x))
+      (sdiv_by_zero (sext 32 64 x) ∙ ap (λ t. cond t 1 (2 ^ 64 - 1)) (extended_sign x))
 
   least_by_minus_one_lem : low32 x ≡ least32 → low32 y ≡ minus_one32 → bvsdiv 64 (extended x) (extended y) ≡ 2 ^ 31
   unfolding bvsdiv negative bvneg bvudiv

@@ -1,6 +1,6 @@
 -- Refusal 10 (document 01, "Who can be refused, and with what"): "identifiers don't rise (two for a State with init), one taken is 0, 1, 2, 3
 -- or 11 to 17, or the next one isn't above 17 and all those taken".
-use Rattle.std.specs.Prelude.{ℕ, zero, suc, ◌+◌, Bool, true, false, not, ◌&&◌, ◌||◌, List, [], ◌∷◌, ◌++◌, leb, ltb}
+use Rattle.std.specs.Prelude.{ℕ, zero, suc, ◌+◌, Bool, true, not, ◌&&◌, ◌||◌, List, [], ◌∷◌, ◌++◌, leb, ltb}
 use Rattle.btor2.specs.Op.{identifiers}
 use Rattle.btor2_list.specs.Node.{Node}
 use Rattle.btor2_list.specs.View.{view}

@@ -8,28 +8,29 @@
 
 use btor2::NodeRef;
 use builder::Tally;
-use cases::{Step, read_counts, read_decimal, read_record, read_role};
-use libc::{STDIN_FILENO, STDOUT_FILENO};
+use cases::{Step, read_counts, read_decimal, read_full, read_record, read_role};
 use state::{Counts, ROLES, State};
+use std::io;
 
-fn main() {
+fn main(rt: HostRuntime) -> io::Result<()> {
     let mut buffer = [0u8; 262144];
-    let n = io::read_full(STDIN_FILENO, &mut buffer);
+    let n = read_full(&mut rt.stdin(), &mut buffer)?;
     let mut list = [0u64; 500];
-    run(&buffer[..n], &mut list);
+    run(&rt, &buffer[..n], &mut list)
 }
 
-fn run(text: &[u8], list: &mut [u64]) {
+fn run(rt: &impl Print, text: &[u8], list: &mut [u64]) -> io::Result<()> {
     let mut state = empty();
     let mut at = 0;
     while at < text.len() {
-        let step = run_line(text, at, list, state);
+        let step = run_line(rt, text, at, list, state)?;
         if step.next <= at {
-            return;
+            return Ok(());
         }
         at = step.next;
         state = step.state;
     }
+    Ok(())
 }
 
 fn empty() -> State {
@@ -46,22 +47,28 @@ fn empty() -> State {
 }
 
 // One command.
-fn run_line(text: &[u8], at: usize, list: &mut [u64], state: State) -> Step {
+fn run_line(
+    rt: &impl Print,
+    text: &[u8],
+    at: usize,
+    list: &mut [u64],
+    state: State,
+) -> io::Result<Step> {
     let command = read_decimal(text, at);
     let from = command.next;
     let which = command.value;
     if which == 1 {
         let next = run_put(text, from, list);
-        return Step { state, next };
+        return Ok(Step { state, next });
     }
     if which == 2 {
-        return read_counts(text, from, state);
+        return Ok(read_counts(text, from, state));
     }
     if which == 3 {
-        return read_role(text, from, state);
+        return Ok(read_role(text, from, state));
     }
-    let next = run_check(text, from, list, state);
-    Step { state, next }
+    let next = run_check(rt, text, from, list, state)?;
+    Ok(Step { state, next })
 }
 
 fn run_put(text: &[u8], at: usize, list: &mut [u64]) -> usize {
@@ -70,7 +77,13 @@ fn run_put(text: &[u8], at: usize, list: &mut [u64]) -> usize {
     read.next
 }
 
-fn run_check(text: &[u8], at: usize, list: &[u64], state: State) -> usize {
+fn run_check(
+    rt: &impl Print,
+    text: &[u8],
+    at: usize,
+    list: &[u64],
+    state: State,
+) -> io::Result<usize> {
     let words = read_decimal(text, at);
     let host = read_decimal(text, words.next);
     let names = read_decimal(text, host.next);
@@ -88,9 +101,9 @@ fn run_check(text: &[u8], at: usize, list: &[u64], state: State) -> usize {
         first_words(&numbers, bads.value),
         state,
     );
-    io::print_decimal(STDOUT_FILENO, refusal);
-    io::write_all(STDOUT_FILENO, b"\n");
-    bads.next
+    rt.print(refusal)?;
+    rt.write_all(b"\n")?;
+    Ok(bads.next)
 }
 
 // As many as are asked for, or all that there are.

@@ -1,0 +1,14 @@
+use Rattle.builder_ops.specs.Composed.{new_sra}
+use Rattle.builder.proofs.Gives.{on, kept}
+use Rattle.builder_ops.proofs.new_sra.Goals as goal
+
+pub returns : goal.returns
+unfolding new_sra
+returns c = 
+    on _ c.new_const-c.ensures (
+    on _ c.new_bin-s.ensures (
+    on _ c.new_bin-x.ensures (
+    on _ c.new_bin-y.ensures c.new_bin.ensures)))
+
+pub shape_of-list : goal.shape_of-list
+shape_of-list c = kept (returns c)
