@@ -18,8 +18,8 @@ use Rattle.lowering.specs.Lowering.{Lent}
 use Rattle.state.specs.declared.State.{State}
 use Rattle.listing_bytes.specs.Step.{Step, step}
 use Rattle.listing_bytes.specs.Storage.{line_room}
-use Rattle.listing_bytes.specs.Listing.{last_line, lines_from, steps, reached, listing}
-use Rattle.listing_bytes.specs.Pieces.{Progress, progress, reading, Told, told, and_then, line_ended, byte_held, take_byte, take_bytes, take_pieces, input_ended, start}
+use Rattle.listing_bytes.specs.Listing.{last_line, lines_from, steps, reached}
+use Rattle.listing_bytes.specs.Pieces.{Progress, Told, told, and_then, line_ended, byte_held, take_byte, take_bytes, take_pieces, input_ended, start}
 use Rattle.listing_bytes.specs.Laws.{TwoPieces, AnyPieces}
 use Rattle.listing_bytes.proofs.Room.{zeros}
 

@@ -1,5 +1,4 @@
 -- The limit, then the sort rule. Assumes nothing.
--- the rule that is tested is that of the line
 use Rattle.std.proofs.Common.{◌≡◌, ℕ, Bool, List, sym, ap, ◌∙◌, arith, le-ltb, lt-ltb}
 use Rattle.btor2.specs.Op.{Op, map_op}
 use Rattle.btor2.specs.SortRule.{rule}
@@ -10,6 +9,7 @@ use Rattle.evaluation.specs.Evaluation.{most_visits}
 use Rattle.evaluation_calls.specs.Inside.{said_at}
 use Rattle.evaluation_calls.proofs.visit.Goals as goal
 
+-- the rule that is tested is that of the line
 ruled : (ws : List ℕ) (p : ℕ) (o : LineOperator) {m : Bool} → op_from o ≡ said_at ws p → m ≡ rule (map_op (mark_at ws p) (op_from o)) → rule (map_op (mark_at ws p) (said_at ws p)) ≡ m
 ruled ws p o s e = ap (λ (x : Op ℕ). rule (map_op (mark_at ws p) x)) (sym s) ∙ sym e
 

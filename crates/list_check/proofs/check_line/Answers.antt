@@ -1,5 +1,4 @@
 -- Plainly formed, or by its kind; and that is 11 where the lines before are well formed. Assumes nothing.
--- both clauses, from the first
 use Prim.Native.Nat.{ℕ}
 use mathlib.Core.Path.{◌≡◌, ◌∙◌}
 use mathlib.Core.Bool.{false}
@@ -10,6 +9,7 @@ use Rattle.list_check.specs.Scan.{scan_line, checked_line}
 use Rattle.list_check.proofs.Scan.{checked}
 use Rattle.list_check.proofs.check_line.Goals as goal
 
+-- both clauses, from the first
 and-eleven : (ws : List ℕ) (i host ours : ℕ) {r : Checked} → r ≡ scan_line ws i host ours
     → (r ≡ scan_line ws i host ours) × (unformed_words ws i host ours ≡ false → r ≡ checked_line ws i host ours)
 and-eleven ws i host ours e = (e, λ none. e ∙ checked ws i host ours none)

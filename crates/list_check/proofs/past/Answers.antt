@@ -1,5 +1,4 @@
 -- The two tests, which cannot wrap, are the definition's one. Assumes nothing.
--- the two forms of the test
 use Prim.Native.Nat.{ℕ, ◌+◌, ◌-◌, ◌≤◌}
 use mathlib.Core.Path.{◌≡◌}
 use lib.Dec.{ltb}
@@ -8,6 +7,7 @@ use borrow.Author.Tests.{lt-ltb, le-ltb}
 use Rattle.bitvec.proofs.Base.{by_le}
 use Rattle.list_check.proofs.past.Goals as goal
 
+-- the two forms of the test
 exceeds : (r c n : ℕ) → c ≤ r → ltb (r - c) n ≡ ltb r (c + n)
 exceeds r c n h = by_le n (r - c) (λ l. rw (le-ltb (r - c) n l, le-ltb r (c + n) (omega arith))) (λ l. rw (lt-ltb (r - c) n l, lt-ltb r (c + n) (omega arith)))
 

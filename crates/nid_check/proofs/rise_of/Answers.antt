@@ -1,5 +1,4 @@
 -- The first identifier, then the second where there is one. Assumes nothing.
--- an identifier that passed is below the next one
 use Prim.Native.Nat.{ℕ, ◌<◌}
 use mathlib.Core.Path.{◌≡◌, sym, ◌∙◌}
 use mathlib.Core.Bool.{Bool, true, false, ◌||◌, true≢false}
@@ -9,6 +8,7 @@ use Rattle.nid_check.specs.Identifiers.{reserved}
 use Rattle.nid_check.specs.Inside.{nid_out}
 use Rattle.nid_check.proofs.rise_of.Goals as goal
 
+-- an identifier that passed is below the next one
 below : (next last t : ℕ) → nid_out next last t ≡ false → t < next
 below next last t e = leb-false next t (third (leb t last) (reserved t) (leb next t) e)
   where
