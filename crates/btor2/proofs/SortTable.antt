@@ -1,10 +1,9 @@
 -- The table of the sorts is what code and definitions say of them. Assumes nothing.
-use Rattle.std.proofs.Common.{◌≡◌, ℕ, ◌<◌, ◌+◌, Bool, true, false, cond, List, [], ◌∷◌, eqb, sym, refl, ◌∙◌, ap, subst, arith, T}
+use Rattle.std.proofs.Common.{◌≡◌, ℕ, ◌+◌, Bool, true, false, cond, List, [], ◌∷◌, eqb, sym, refl, ◌∙◌, ap}
 use borrow.Author.Tests.{eqb-true}
 use Rattle.btor2.specs.declared.NodeType.{NodeType}
 use Rattle.btor2.specs.declared.NodeType.TheVariants.{Bit, Word, Memory, Input1Byte, Input2Byte, Input3Byte, Input4Byte, Input5Byte, Input6Byte, Input7Byte}
-use Rattle.btor2.specs.declared.MaybeSort.{MaybeSort}
-use Rattle.btor2.specs.declared.MaybeSort.TheVariants.{Sort, NoSort}
+use Rattle.btor2.specs.declared.MaybeSort.TheVariants.{Sort}
 use Rattle.btor2.specs.Sort.{sort_number, sort_numbered, first_numbered, sorts, width}
 use Rattle.btor2.specs.SortTable.{sort_row, Tabled}
 use Rattle.btor2.proofs.Sort.{sort_back}

@@ -1,5 +1,5 @@
 -- The sort rule (document 01, "Start, storage, evaluation", after the BTOR2 paper): a test over a list of lines.
-use Rattle.std.specs.Prelude.{ℕ, ◌^◌, Bool, true, false, ◌&&◌, ◌||◌, List, [], ◌∷◌, ltb, get_or}
+use Rattle.std.specs.Prelude.{ℕ, ◌^◌, Bool, true, false, ◌&&◌, ◌||◌, List, [], ◌∷◌, ltb}
 use Rattle.std.proofs.Math.Bool as B
 use Rattle.btor2.specs.declared.NodeType.{NodeType}
 use Rattle.btor2.specs.declared.NodeType.TheVariants.{Bit, Word, Memory}

@@ -8,7 +8,7 @@ use lib.ListN.{replicate}
 use Rattle.bitvec.proofs.LastArm.{NoneOf, among, differs}
 use Rattle.btor2.specs.declared.NodeType.{NodeType}
 use Rattle.btor2.specs.declared.MaybeSort.TheVariants.{Sort, NoSort}
-use Rattle.btor2.specs.Op.{Op, unknown}
+use Rattle.btor2.specs.Op.{unknown}
 use Rattle.btor2_list.specs.declared.Line.{Line}
 use Rattle.btor2_list.specs.Kinds.{const_kind, read_kind, write_kind, add_kind, sub_kind, mul_kind, udiv_kind, sdiv_kind, urem_kind, sll_kind, srl_kind, ult_kind, uext_kind, ite_kind, eq_kind, and_kind, or_kind, not_kind, state_kind, next_kind, input_kind, bad_kind}
 use Rattle.btor2_list.specs.Node.{operator_at, op_of}

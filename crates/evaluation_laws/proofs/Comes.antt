@@ -1,13 +1,13 @@
 -- Where every line meets the sort rule, the visits that a line takes are a number that no limit changes: within a limit that is as large its
 -- value comes, within a lower one 18. Assumes nothing.
 use Prim.Native.Nat.{ℕ, zero, suc, ◌+◌, ◌<◌, ◌≤◌}
-use mathlib.Core.Path.{◌≡◌, refl, sym, ◌∙◌, ap, ap₂, fun_ext}
+use mathlib.Core.Path.{◌≡◌, refl, ◌∙◌, ap, ap₂, fun_ext}
 use mathlib.Core.Bool.{Bool, true, false, cond}
-use mathlib.Core.List.{List, [], ◌∷◌, ◌++◌, map}
+use mathlib.Core.List.{List, [], ◌∷◌, ◌++◌}
 use native.Mathlib.Nat.{zero-add}
 use native.Mathlib.Omega.{arith}
 use borrow.Author.Tests.{lt-ltb, le-ltb}
-use lib.Dec.{T, ltb, eqb}
+use lib.Dec.{T, eqb}
 use lib.ListN.{length, get_or}
 use Rattle.bitvec.proofs.Truth.{is_true}
 use Rattle.bitvec.specs.Smtlib.{bit, bvnot, bvand, bvor, bvcomp, zero_extend}
@@ -26,8 +26,8 @@ use Rattle.list_check.specs.Lines.{ops}
 use Rattle.evaluation.specs.Given.{given_env}
 use Rattle.evaluation.specs.declared.Evaluated.{Evaluated}
 use Rattle.evaluation.specs.declared.Evaluated.TheVariants.{Refused, Value}
-use Rattle.evaluation.specs.Evaluation.{after_value, Looks, one, both, look_of, too_many_visits, visit, looks_of, no_looks, looks, looks_at, unfit, evaluated_within}
-use Rattle.evaluation_laws.specs.Laws.{value_given, ValueComes, AnswersWhereRight}
+use Rattle.evaluation.specs.Evaluation.{after_value, Looks, one, both, look_of, too_many_visits, visit, looks_of, no_looks, looks, looks_at, evaluated_within}
+use Rattle.evaluation_laws.specs.Laws.{AnswersWhereRight}
 use Rattle.evaluation_laws.proofs.Law.{ite_num, ite_mem, gives_the_value}
 
 -- ---- looks that take k visits and give x, whatever the limit allows

@@ -5,7 +5,7 @@ use mathlib.Core.Bool.{Bool, true, false, cond}
 use mathlib.Core.List.{List, [], ◌∷◌, ◌++◌}
 use native.Mathlib.Omega.{arith}
 use borrow.Author.Tests.{lt-ltb, le-ltb}
-use lib.Dec.{ltb, eqb}
+use lib.Dec.{eqb}
 use lib.ListN.{length, get_or}
 use Rattle.bitvec.specs.Smtlib.{bit, bvnot, bvcomp, zero_extend}
 use Rattle.bitvec.specs.Smtlib as Smt
@@ -21,7 +21,7 @@ use Rattle.list_check.specs.Lines.{ops}
 use Rattle.evaluation.specs.Given.{given_env}
 use Rattle.evaluation.specs.declared.Evaluated.{Evaluated}
 use Rattle.evaluation.specs.declared.Evaluated.TheVariants.{Refused, Value}
-use Rattle.evaluation.specs.Evaluation.{after_value, Look, Looks, one, both, look_of, ill_sorted, too_many_visits, unfit_asked, visit, looks_of, no_looks, looks, looks_at, unfit, evaluated_within}
+use Rattle.evaluation.specs.Evaluation.{after_value, Looks, one, both, look_of, ill_sorted, too_many_visits, unfit_asked, visit, looks_of, no_looks, looks, looks_at, unfit, evaluated_within}
 use Rattle.evaluation_laws.specs.Laws.{IsTheValue, GivesTheValue}
 
 -- a value that is found is the number, or the word of the array, and its visits are within the limit

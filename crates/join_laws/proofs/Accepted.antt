@@ -14,7 +14,7 @@ use Rattle.btor2.specs.declared.NodeType.TheVariants.{Bit as B1, Word as W}
 use Rattle.btor2.specs.Op.{Op}
 use Rattle.btor2.specs.SortRule.{meets_sort_rule}
 use Rattle.btor2.proofs.LineIs.{line_is}
-use Rattle.btor2.specs.Value.{Env, value}
+use Rattle.btor2.specs.Value.{Env}
 use Rattle.btor2.proofs.Range.{value_fits}
 use Rattle.btor2.proofs.SortRule.{line_kept}
 use Rattle.btor2_list.specs.declared.MaybeAddress.TheVariants.{NoAddress}

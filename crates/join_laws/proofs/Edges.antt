@@ -7,10 +7,10 @@ use borrow.Author.Tests.{eqb-true, ne_eqb}
 use lib.Dec.{eqb}
 use lib.ListN.{length}
 use Rattle.btor2.specs.Op.{Op}
-use Rattle.btor2.specs.Value.{Env, value}
+use Rattle.btor2.specs.Value.{Env}
 use Rattle.btor2.proofs.Value.{value_kept}
 use Rattle.list_check.specs.Lines.{any}
-use Rattle.builder.specs.Prog.{Prog, done, ◌>>=◌, Run, ran, exec}
+use Rattle.builder.specs.Prog.{Run}
 use Rattle.builder.proofs.Exec.{exec-bind}
 use Rattle.join.specs.ControlFlow.{Bits, Kernel, control_flow_from_regular, control_flow_from_branch, control_flow_from_ecall, control_flow_from_jalr}
 use Rattle.join.specs.Program.{Edge, Dispatch, from_edge, join_edges, join_dispatches, join_address}

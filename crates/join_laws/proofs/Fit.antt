@@ -1,15 +1,13 @@
 -- The names of a join's lines fit the record. Assumes nothing.
 use Prim.Native.Nat.{ℕ, ◌+◌}
 use mathlib.Core.Path.{◌≡◌, refl}
-use mathlib.Core.Bool.{Bool, true, false, cond, ◌&&◌}
+use mathlib.Core.Bool.{Bool, true, false, cond}
 use mathlib.Core.List.{List, [], ◌∷◌}
 use lib.Dec.{eqb}
 use lib.ListN.{length}
 use Rattle.btor2.specs.Op.{Op}
-use Rattle.btor2.specs.declared.NodeType.TheVariants.{Bit as B1}
 use Rattle.btor2_list.proofs.Fitting.{area_fits}
 use Rattle.builder.specs.Prog.{Prog, done, line, ◌>>=◌}
-use Rattle.builder.specs.OneLine.{new_ite}
 use Rattle.builder.specs.Lines.{lines_of}
 use Rattle.lowering_laws.proofs.Growth.{fitting}
 use Rattle.join.specs.ControlFlow.{Bits, Kernel, control_flow_from_any, control_flow_from_regular, control_flow_from_branch, control_flow_from_ecall, control_flow_from_jalr}

@@ -18,10 +18,10 @@ use Rattle.btor2.specs.Value.{Value, number, Env, eval_op, values, value}
 use Rattle.btor2.specs.Walk.{walk}
 use Rattle.btor2.proofs.Walk.{walk-append, length-walk}
 use Rattle.btor2.proofs.Value.{value_kept}
-use Rattle.builder.specs.Prog.{Prog, done, line, Run, ran, exec}
+use Rattle.builder.specs.Prog.{Prog, done, line, ran}
 use Rattle.builder.specs.Lines.{lines_of, place_after}
 use Rattle.builder.proofs.Result.{result_of}
-use Rattle.join_laws.specs.Push.{push, pushed}
+use Rattle.join_laws.specs.Push.{pushed}
 use Rattle.join_laws.proofs.Sound.{Bit}
 
 -- the program's lines after the others

@@ -1,24 +1,24 @@
 -- The lines of a join meet the sort rule, and its flow is a Bit. Assumes nothing.
-use Prim.Native.Nat.{ℕ, suc, ◌+◌, ◌<◌}
+use Prim.Native.Nat.{ℕ, ◌+◌}
 use native.Mathlib.Omega.{arith}
-use native.Mathlib.Nat.{zero-add, add-zero}
+use native.Mathlib.Nat.{add-zero}
 use mathlib.Core.Path.{◌≡◌, refl, sym, ◌∙◌, ap, subst}
 use mathlib.Core.Bool.{Bool, true, false, cond, ◌&&◌, ◌||◌}
 use mathlib.Core.List.{List, [], ◌∷◌, ◌++◌, append_assoc, append-nil}
 use borrow.Author.Tests.{eqb-true}
 use lib.Dec.{T, eqb}
-use lib.ListN.{length, get_or, length-append, get_or-append}
+use lib.ListN.{length, get_or, get_or-append}
 use lib.Seq.{get_or-append-add}
 use Rattle.btor2.specs.declared.Name.{Name}
 use Rattle.btor2.specs.declared.NodeType.{NodeType}
 use Rattle.btor2.specs.declared.NodeType.TheVariants.{Bit as B1, Word as W}
 use Rattle.btor2.specs.Op.{Op, map_op, ite, eq, and, state_init, next, unknown, carried}
-use Rattle.btor2.specs.SortRule.{Mark, Judged, has_sort, is, rule, is_state_op, mark_of, judge, no_line, judged, all_right, meets_sort_rule}
+use Rattle.btor2.specs.SortRule.{Mark, Judged, has_sort, is, rule, is_state_op, judge, no_line, judged, all_right, meets_sort_rule}
 use Rattle.btor2.proofs.LineIs.{line_is}
 use Rattle.btor2.specs.Walk.{walk}
 use Rattle.btor2.proofs.Walk.{walk-append}
 use Rattle.btor2.proofs.SortRule.{mark_at_lem, mark_line, line_kept}
-use Rattle.builder.specs.Prog.{Prog, done, ◌>>=◌, Run, ran, exec}
+use Rattle.builder.specs.Prog.{done, ◌>>=◌, Run, ran}
 use Rattle.builder.specs.OneLine.{new_ite}
 use Rattle.builder.proofs.Exec.{exec-bind}
 use Rattle.meaning.proofs.Behind.{inside}

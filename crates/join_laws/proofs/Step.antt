@@ -1,10 +1,10 @@
 -- One step of a join: the new flow is 1 exactly where what activates is, or the old flow was. Assumes nothing.
-use Prim.Native.Nat.{ℕ, suc, ◌+◌, ◌%◌, ◌<◌, ◌^◌}
+use Prim.Native.Nat.{ℕ, ◌%◌, ◌<◌, ◌^◌}
 use native.Mathlib.Omega.{arith}
 use native.Mathlib.Nat.{mod-lt}
 use lib.Pow.{pow_pos}
 use mathlib.Core.Path.{◌≡◌, refl, sym, ◌∙◌, ap, ap₂, subst}
-use mathlib.Core.Bool.{Bool, true, false, cond, ◌&&◌, ◌||◌, or-false, or_assoc}
+use mathlib.Core.Bool.{Bool, true, false, cond, ◌&&◌, ◌||◌, or-false}
 use mathlib.Core.List.{List, [], ◌∷◌, ◌++◌, append_assoc, append-nil}
 use borrow.Author.Tests.{eqb-true}
 use lib.Dec.{eqb}
@@ -12,14 +12,13 @@ use lib.ListN.{length, length-append}
 use Rattle.bitvec.specs.Smtlib as Smt
 use Rattle.btor2.specs.declared.Name.{Name}
 use Rattle.btor2.specs.declared.NodeType.TheVariants.{Bit as B1}
-use Rattle.btor2.specs.Op.{Op, and, ite, eq, state_init, next, map_op}
-use Rattle.btor2.specs.Value.{Value, Env, eval_op, value}
+use Rattle.btor2.specs.Op.{Op, and, ite, eq, state_init, next}
+use Rattle.btor2.specs.Value.{Value, Env, value}
 use Rattle.btor2.proofs.Value.{value_kept}
-use Rattle.builder.specs.Prog.{Prog, done, line, ◌>>=◌, Run, ran, exec}
-use Rattle.builder.specs.OneLine.{new_ite, new_and_bit}
-use Rattle.builder.proofs.Exec.{exec-bind}
+use Rattle.builder.specs.Prog.{done, ◌>>=◌, Run}
+use Rattle.builder.specs.OneLine.{new_ite}
 use Rattle.join.specs.ControlFlow.{Bits, Kernel, control_flow_from_any, control_flow_from_regular, control_flow_from_branch, control_flow_from_ecall, control_flow_from_jalr}
-use Rattle.join_laws.specs.Push.{push, pushed}
+use Rattle.join_laws.specs.Push.{pushed}
 use Rattle.join_laws.specs.Active.{on}
 use Rattle.join_laws.proofs.Sound.{Bit, KnownBits}
 use Rattle.join_laws.proofs.Pushed.{longer, value_ite, value_and, value_eq, value_state, bit_kept, and_bits, comp_bit, comp_on}

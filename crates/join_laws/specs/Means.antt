@@ -1,5 +1,5 @@
 -- What an accepted join does to the list and what its flow means.
-use Rattle.std.specs.Prelude.{ℕ, ◌+◌, ◌≤◌, ◌<◌, ◌≡◌, true, ◌||◌, List, [], ◌++◌, T, length}
+use Rattle.std.specs.Prelude.{ℕ, ◌+◌, ◌≤◌, ◌≡◌, true, ◌||◌, List, ◌++◌, T, length}
 use Rattle.btor2.specs.Op.{Op}
 use Rattle.btor2.specs.SortRule.{meets_sort_rule}
 use Rattle.btor2.specs.Value.{Env, value}

@@ -1,6 +1,6 @@
 -- The calls over words where the roles of the state in the words are tested, and a call over a state. Assumes nothing.
 use Prim.Native.Nat.{ℕ, ◌≤◌}
-use mathlib.Core.Path.{◌≡◌, refl, sym, ap, ◌∙◌}
+use mathlib.Core.Path.{◌≡◌, refl, ap, ◌∙◌}
 use mathlib.Core.Bool.{Bool, true, false, cond}
 use mathlib.Core.List.{List}
 use native.Mathlib.Omega.{arith}
@@ -12,7 +12,7 @@ use Rattle.riscv.specs.declared.Instruction.{Instruction}
 use Rattle.state.specs.Roles.{role_count}
 use Rattle.state.specs.declared.State.{State}
 use Rattle.lowering.specs.Lowering.{Lent, Answer, answer, lowering_given, lowering}
-use Rattle.state.specs.Words.{state_words, state_in, state_out, with_state}
+use Rattle.state.specs.Words.{state_words, state_in, state_out}
 use Rattle.lowering.specs.Words.{Given, given, given_by, lowering_words}
 use Rattle.lowering.specs.All.{GivenAll, lowering_all_words}
 use Rattle.lowering.proofs.Refused.{refused_kept}

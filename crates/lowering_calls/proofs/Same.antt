@@ -12,7 +12,7 @@ use Rattle.state.specs.RolesFit.{roles_fit}
 use Rattle.state.specs.declared.State.{State}
 use Rattle.lowering_refusals.specs.Refusal.{refusal_of}
 use Rattle.lowering.specs.Lowering.{Lent, Answer, room_in, lowering}
-use Rattle.state.specs.Words.{state_words, roles_in, state_in, with_state}
+use Rattle.state.specs.Words.{state_words, state_in, with_state}
 use Rattle.lowering.specs.Words.{Given, given_by}
 use Rattle.lowering.specs.declared.LowerCall.{LowerCall}
 use Rattle.lowering.specs.All.{call_words, calls_in, AnswerAll, answer_all, lowering_on, lowering_all, GivenAll, given_all, all_by}

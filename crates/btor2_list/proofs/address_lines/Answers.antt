@@ -15,19 +15,19 @@ kept list₀ list from n address e = ap length e ∙ addressed_length list₀ fr
 
 pub loop-place-init : goal.loop-place-init
 unfolding address_lines
-loop-place-init c = 
+loop-place-init c =
     let from = c.args.from in
     let none : from - from ≡ 0 = omega arith in
     (omega arith, omega arith, c.least-end.ensures, rw none)
 
 pub address_line-requires : goal.address_line-requires
-address_line-requires c = 
+address_line-requires c =
     let inv = c.loop-place.invariant in
     let size = kept _ _ _ _ _ inv.3 in
     omega (arith, inv.2, size)
 
 pub loop-place-preserved : goal.loop-place-preserved
-loop-place-preserved c = 
+loop-place-preserved c =
     let inv = c.loop-place.invariant in
     let a = c.args in
     let place = c.loop-place.place in
@@ -44,7 +44,7 @@ pub shape_of-list : goal.shape_of-list
 shape_of-list c = kept _ _ _ _ _ c.loop-place.invariant.3
 
 pub returns : goal.returns
-returns c = 
+returns c =
     let inv = c.loop-place.invariant in
     let a = c.args in
     let ws = a.list.now in

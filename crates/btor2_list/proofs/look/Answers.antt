@@ -7,20 +7,20 @@ use borrow.Author.Tests.{le-ltb, lt-ltb}
 use Rattle.btor2_list.proofs.look.Goals as goal
 
 pub returns-then-lines-p : goal.returns-then-lines-p
-returns-then-lines-p c = 
+returns-then-lines-p c =
     let a = c.args in
     let past : a.lines ≤ a.place.0 = omega arith in
     rw (le-ltb _ _ past) c.outside.ensures
 
 pub returns-then-list-p : goal.returns-then-list-p
-returns-then-list-p c = 
+returns-then-list-p c =
     let a = c.args in
     let listed : a.place.0 < a.lines = omega arith in
     rw (lt-ltb _ _ listed, le-ltb _ _ c.if-list-p.true) c.outside-then-list-p.ensures
 
 pub returns : goal.returns
 unfolding record_at
-returns c = 
+returns c =
     let a = c.args in
     let listed : a.place.0 < a.lines = omega arith in
     rw (lt-ltb _ _ listed, lt-ltb _ _ c.if-list-p.false, ← c.carries-sort.ensures (record_at a.list.now a.place.0) refl refl)

@@ -12,7 +12,7 @@ returns-then-line-ne-STATE c = ap (λ (b : Bool). cond b 2 1) (sym (no_init c.ar
 
 pub returns-then-line-eq0 : goal.returns-then-line-eq0
 unfolding op_of
-returns-then-line-eq0 c = 
+returns-then-line-eq0 c =
     let l = c.args.line in
     rw (c.if-line-ne-STATE.false, c.if-line-eq0.true) (sym (without_init (sort_numbered l.sort) l.name))
 

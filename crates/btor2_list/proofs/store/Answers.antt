@@ -21,6 +21,6 @@ pub shape_of-list : goal.shape_of-list
 shape_of-list c = simp length-set
 
 pub returns : goal.returns
-returns c = 
+returns c =
     rw (c.either-3.ensures, c.either-2.ensures, c.either.ensures, c.head_of.ensures, c.is_named-named.ensures, c.either-init.ensures)
     (simp (suc-eq-add-one, add_assoc, add-zero))

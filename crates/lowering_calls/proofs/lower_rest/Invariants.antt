@@ -9,7 +9,7 @@ use Rattle.lowering_calls.proofs.lower_rest.Given as goal
 
 abbrev pub invariant-loop-done : goal.invariant-loop-done
 invariant-loop-done l =
-    l.done ≤ l.count) × (l.count ≡ length l.calls / 7)
+    (l.done ≤ l.count) × (l.count ≡ length l.calls / 7)
     × (words_on l.fits l.done (lent l.list l.names l.edges l.dispatches l.bads) l.state (calls_in (l.count - l.done) (drop (l.done * 7) l.calls)) ≡ words_all l.fits (lent l.initial.list l.initial.names l.initial.edges l.initial.dispatches l.initial.bads) l.initial.state l.calls)
 
 abbrev pub decreases-loop-done : goal.decreases-loop-done

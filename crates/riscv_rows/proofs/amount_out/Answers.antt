@@ -20,6 +20,6 @@ pub returns-in-23 : goal.returns-in-23
 returns-in-23 c = rw c.in-23.is
 
 pub returns-in_default : goal.returns-in_default
-returns-in_default c = 
+returns-in_default c =
     let no = none_of (23 ∷ 22 ∷ 21 ∷ 18 ∷ 17 ∷ []) c.args.kind c.in_default.in_default-own.rest in
     simp (no 17 tt, no 18 tt, no 21 tt, no 22 tt, no 23 tt)

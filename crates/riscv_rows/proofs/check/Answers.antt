@@ -1,6 +1,6 @@
 -- The tests come in the definition's order, and each answers as its own definition does. Assumes nothing.
 -- the tests from each one on
-use Rattle.std.proofs.Common.{lt-ltb, le-ltb, ◌≡◌, ℕ, ◌<◌, Bool, true, false, not, [], ◌∷◌, refl, sym, ap, ◌∙◌, arith}
+use Rattle.std.proofs.Common.{lt-ltb, le-ltb, ◌≡◌, ℕ, ◌<◌, Bool, false, not, [], ◌∷◌, refl, sym, ap, ◌∙◌}
 use Rattle.riscv.specs.declared.Instruction.{Instruction}
 use Rattle.riscv.specs.declared.Format.{Format}
 use Rattle.riscv.specs.Kind.{kind_at}

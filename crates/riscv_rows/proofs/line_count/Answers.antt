@@ -9,7 +9,7 @@ pub count_of-requires : goal.count_of-requires
 count_of-requires c = rw c.plain_count-n.ensures (plain_most (kind_at c.args.kind))
 
 pub returns : goal.returns
-returns c = 
+returns c =
     let a = c.args in
     let is = c.count_of.ensures ∙ ap₂ (λ k n. count_of k n a.z) c.class_of-class.ensures c.plain_count-n.ensures in
     record { counted = is; most = rw is (at_most (kind_at a.kind) a.z) }

@@ -14,7 +14,7 @@ pub shape_of-out-then-a-lt10 : goal.shape_of-out-then-a-lt10
 shape_of-out-then-a-lt10 c = simp length-set (put_length c.put_word_in-q.ensures.0 ∙ put_length c.put_in-p.ensures.0)
 
 pub returns-then-a-lt10 : goal.returns-then-a-lt10
-returns-then-a-lt10 c = 
+returns-then-a-lt10 c =
     let a = c.args.a in
     let digit : (48 + a) ∷ [] ≡ decimal_text a = rw (lt-ltb a 10 c.if-a-lt10.true) at (one 19 a c.if-a-lt10.true) in
     (put_as (then {t = (48 + a) ∷ []} (omega arith) (then (omega arith) c.put_in-p.ensures.0 c.put_word_in-q.ensures.0) (record { list = refl; next = omega (arith, c.put_word_in-q.ensures.1, c.put_in-p.ensures.1) })) (rw (digit, append_assoc)), omega (arith, c.put_word_in-q.ensures.1, c.put_in-p.ensures.1))

@@ -5,7 +5,7 @@ use Rattle.row_text.proofs.Rows.{named_row_lem}
 use Rattle.row_text.proofs.put_named.Goals as goal
 
 pub returns : goal.returns
-returns c = 
+returns c =
     let h = c.well_formed.0.0 in
     let r = c.args in
     put_as

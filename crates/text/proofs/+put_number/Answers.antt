@@ -14,12 +14,12 @@ pub digit-d-requires : goal.digit-d-requires
 digit-d-requires t c = let a = c.args in omega (arith, mod-lt a.x {m = a.base} (omega arith))
 
 pub returns-then-x-base : goal.returns-then-x-base
-returns-then-x-base t c = 
+returns-then-x-base t c =
     let a = c.args in
     put_as c.put_byte.ensures (numeral_one a.base a.k a.x _ c.if-k-eq0.false c.if-x-base.true c.digit-d.ensures)
 
 pub returns : goal.returns
-returns t c = 
+returns t c =
     let a = c.args in
     put_as
     (then (omega arith) c.put_number-p.ensures c.put_byte-2.ensures)

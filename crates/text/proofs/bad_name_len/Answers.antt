@@ -4,6 +4,6 @@ use Rattle.text.proofs.Laws.{bad_name_length}
 use Rattle.text.proofs.bad_name_len.Goals as goal
 
 pub returns : goal.returns
-returns c = 
+returns c =
     let h = bad_name_length c.args.address in
     let e = c.put_bad_name.ensures.next in record { is = omega arith; most = omega arith }

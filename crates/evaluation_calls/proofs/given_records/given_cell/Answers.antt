@@ -16,7 +16,7 @@ returns-then-memory-i c =
     kept _ _
     (sym (get_or-drop (i * cell_stride) ws 2 0)
     ∙ found 0 cell_stride cell_in (for_cell a.place.0 a.address) (λ (x : NodeCell). x.word) (length ws / cell_stride) i ws c.loop-i.invariant.2 (omega arith) (rw (first_word (i * cell_stride) ws, get_or-drop (i * cell_stride) ws 1 0) c.if-memory-i.true))
-    (c.shared_slice_known-then-memory-i-1.given (i * cell_stride + 2)).fits
+    (c.type_inv.memory (i * cell_stride + 2)).fits
 
 pub loop-i-preserved : goal.loop-i-preserved
 loop-i-preserved c =

@@ -38,6 +38,6 @@ returns-in-48 c = rw c.in-48.is c.wrapping_add_u64-in-48.ensures.value
 
 pub returns-in_default : goal.returns-in_default
 unfolding constant_of
-returns-in_default c = 
+returns-in_default c =
     let no = none_of (48 ∷ 47 ∷ 23 ∷ 22 ∷ 21 ∷ 19 ∷ 1 ∷ 0 ∷ []) c.args.kind c.in_default.in_default-own.rest in
     rw (no 0 tt, no 1 tt, no 19 tt, no 21 tt, no 22 tt, no 23 tt, no 47 tt, no 48 tt)

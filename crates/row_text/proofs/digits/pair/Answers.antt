@@ -9,7 +9,7 @@ tenth : (x : ℕ) → x < 100 → x * 103 / 1024 ≡ x / 10
 tenth x h = omega arith
 
 pub returns : goal.returns
-returns c = 
+returns c =
     let x = c.args.x in
     let first : x / 10 < 10 = omega (arith, c.requires) in
     let second : x % 10 < 10 = omega arith in

@@ -5,6 +5,6 @@ use Rattle.row_text.proofs.Split.{before_four}
 use Rattle.row_text.proofs.digits.put_eight.Goals as goal
 
 pub returns : goal.returns
-returns c = 
+returns c =
     let a = c.args in
     (put_as (then (omega arith) c.put_short-p.ensures.0 c.put_four.ensures.0) (before_four a.x c.if-x-lt10000.false (omega arith)), omega arith)

@@ -19,7 +19,7 @@ high : (a b : ℕ) → a < 256 → (a + 256 * b) / 256 ≡ b
 high a b h = omega arith
 
 pub overflow_cast-out-2 : goal.overflow_cast-out-2
-overflow_cast-out-2 c = 
+overflow_cast-out-2 c =
     let x = c.args.x in
     let first = digit_byte (x / 10) (omega (arith, c.requires.0)) in
     record { fits = rw (c.pair-w.ensures, high (glyph (x / 10)) (glyph (x % 10)) first) (digit_byte (x % 10) (omega arith)) }
@@ -28,7 +28,7 @@ pub bounds-out-at-2 : goal.bounds-out-at-2
 bounds-out-at-2 c = rw length-set (omega arith)
 
 pub returns : goal.returns
-returns c = 
+returns c =
     let x = c.args.x in
     let first = digit_byte (x / 10) (omega (arith, c.requires.0)) in
     let w = c.pair-w.ensures in

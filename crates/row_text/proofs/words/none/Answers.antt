@@ -9,6 +9,6 @@ pub bounds-out-at-2 : goal.bounds-out-at-2
 bounds-out-at-2 c = simp length-set (omega arith)
 
 pub returns : goal.returns
-returns c = 
+returns c =
     let e1 : c.args.at + 1 ≡ suc c.args.at = omega arith in
     (record { list = rw (e1); next = omega arith }, omega arith)

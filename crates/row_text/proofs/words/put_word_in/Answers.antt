@@ -83,7 +83,7 @@ pub returns-in-22 : goal.returns-in-22
 returns-in-22 c = at_kind _ 22 c.in-22.is c.three-in-22.ensures
 
 pub returns-in_default : goal.returns-in_default
-returns-in_default c = 
+returns-in_default c =
     let k = c.args.k in
     let e = c.none.ensures in
     (put_as e.0 (ap (λ (w : List _). spaced w) (sym (no_word k (past 0 23 k c.in_default.in_default-own.rest (omega arith))))), e.1)

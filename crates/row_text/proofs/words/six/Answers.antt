@@ -27,7 +27,7 @@ pub bounds-out-at-8 : goal.bounds-out-at-8
 bounds-out-at-8 c = simp length-set (omega arith)
 
 pub returns : goal.returns
-returns c = 
+returns c =
     let e1 : c.args.at + 1 ≡ suc c.args.at = omega arith in
     let e2 : c.args.at + 2 ≡ suc (suc c.args.at) = omega arith in
     let e3 : c.args.at + 3 ≡ suc (suc (suc c.args.at)) = omega arith in
