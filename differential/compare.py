@@ -5,7 +5,7 @@
     compare.py [--listing PROGRAM] [--source FOLDER] [--cases PROGRAM] [--seeds A B] [--lines N]           on generated inputs
 
 Builds the oracle (README.md) from FOLDER (default as build.sh's: ../shared/docs/src beside the repository), gives inputs to PROGRAM
-(default: target/bin/listing of the repository) and compares all that it writes, byte by byte, with
+(default: crates/listing/out/listing) and compares all that it writes, byte by byte, with
 
 - what the Rust prints, for the lines that are accepted: node lines, edges, dispatches. Flows show in the node lines that follow: most
   generated inputs end with lines that name every flow;
@@ -24,7 +24,7 @@ each kind has just enough room and one line too few, odd ends and sizes of input
 and a list that fills up.
 
 The listing has one start, on which x0's node is the zero word and flows are nodes. So the lowering is compared from the oracle's start apart
-too, on generated inputs, where no two roles are one line: --cases (default: target/bin/lowering_cases of the repository) is handed that
+too, on generated inputs, where no two roles are one line: --cases (default: crates/lowering_cases/out/lowering_cases) is handed that
 start and, for each seed, N mixed lines. What it writes, the numbers of records, edges, dispatches, bads, counts and all flows after each
 call, must be what tools/lowering_cases.py makes of the Rust's text. On generated inputs it prints counts for each kind and refusal.
 
@@ -391,12 +391,12 @@ FOR_GENERATED = ("cases", "seeds", "lines")
 def arguments():
     parser = command.Parser(description="The listing program against the unchanged Rust, on given firmware or on generated inputs.")
     parser.add_argument("firmware", nargs="*", metavar="FIRMWARE", help="an RV64 ELF file, an image or a file of input lines; - is standard input")
-    parser.add_argument("--listing", default=HERE.parent / "target" / "bin" / "listing", type=pathlib.Path, metavar="PROGRAM")
+    parser.add_argument("--listing", default=command.program("listing"), type=pathlib.Path, metavar="PROGRAM")
     parser.add_argument("--source", type=pathlib.Path, metavar="FOLDER", help="where the Rust is (default: ../shared/docs/src beside the repository)")
     parser.add_argument("--raw", action="store_true", default=None, help="FIRMWARE is an image of code")
     parser.add_argument("--base", type=command.address, metavar="ADDRESS", help="where an image is loaded")
     parser.add_argument("--all-refused", action="store_true", default=None, help="show every instruction that is refused")
-    parser.add_argument("--cases", type=pathlib.Path, metavar="PROGRAM", help="default: target/bin/lowering_cases")
+    parser.add_argument("--cases", type=pathlib.Path, metavar="PROGRAM", help="default: crates/lowering_cases/out/lowering_cases")
     parser.add_argument("--seeds", nargs=2, type=int, metavar=("A", "B"), help="default: 1 40")
     parser.add_argument("--lines", type=command.count, metavar="N", help="default: 60")
     chosen = parser.parse_args()
@@ -421,7 +421,7 @@ def main():
     chosen = arguments()
     given = [firmware.Firmware(path, chosen.base) for path in chosen.firmware]
     listing = found_program(chosen.listing, "tools/listing.sh")
-    cases = None if given else found_program(chosen.cases or HERE.parent / "target" / "bin" / "lowering_cases", "rt check lowering_cases")
+    cases = None if given else found_program(chosen.cases or command.program("lowering_cases"), "rt run in crates/lowering_cases")
     if subprocess.run([HERE / "build.sh"] + ([chosen.source] if chosen.source else [])).returncode:
         raise command.Failed("the oracle was not built")
     oracle = Oracle(HERE / "target" / "oracle")

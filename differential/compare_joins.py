@@ -4,8 +4,8 @@
     compare_joins.py [--cases PROGRAM] [--source FOLDER] [--seeds A B] [--joins N]
 
 Builds the oracle (README.md) from FOLDER (default as build.sh's: ../shared/docs/src beside the repository) and, for each seed from A to B (1 to
-60), draws N (700) joins (generate_joins.py), which it gives to PROGRAM (default: target/bin/join_cases of the repository, which
-`rt check join_cases` makes) as commands. All that PROGRAM writes must be
+60), draws N (700) joins (generate_joins.py), which it gives to PROGRAM (default: crates/join_cases/out/join_cases, which
+`rt run` in that crate makes) as commands. All that PROGRAM writes must be
 
 - for an accepted join what the Rust's five control_flow_from_* functions append, turned into records: lines, names, sequentials, flow and
   next identifier. tools/join_reading.py, a reading of R-1 of its own, must give the same, and on random values the flow must be 1 exactly where
@@ -88,7 +88,7 @@ def on_seeds(program, first, last, count):
 
 def arguments():
     parser = command.Parser(description="The join against the unchanged Rust, on generated joins.")
-    parser.add_argument("--cases", default=HERE.parent / "target" / "bin" / "join_cases", type=pathlib.Path, metavar="PROGRAM")
+    parser.add_argument("--cases", default=command.program("join_cases"), type=pathlib.Path, metavar="PROGRAM")
     parser.add_argument("--source", type=pathlib.Path, metavar="FOLDER", help="where the Rust is (default: ../shared/docs/src beside the repository)")
     parser.add_argument("--seeds", nargs=2, type=command.count, default=(1, 60), metavar=("A", "B"), help="default: 1 60")
     parser.add_argument("--joins", type=command.count, default=700, metavar="N", help="default: 700")
@@ -97,7 +97,7 @@ def arguments():
 
 def main():
     chosen = arguments()
-    program = compare.found_program(chosen.cases, "rt check join_cases")
+    program = compare.found_program(chosen.cases, "rt run in crates/join_cases")
     if subprocess.run([HERE / "build.sh"] + ([chosen.source] if chosen.source else [])).returncode:
         raise command.Failed("the oracle was not built")
     return on_seeds(program, *chosen.seeds, chosen.joins)

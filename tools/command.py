@@ -13,6 +13,11 @@ NAME = pathlib.Path(sys.argv[0]).name
 COULD_NOT_RUN = 2
 
 
+def program(crate):
+    """Where `rt run` in a crate's folder puts the program."""
+    return pathlib.Path(__file__).resolve().parent.parent / "crates" / crate / "out" / crate
+
+
 class Failed(Exception):
     """A sentence for the person at the desk, and the exit status."""
 

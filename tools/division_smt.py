@@ -1,7 +1,7 @@
 #!/usr/bin/env python3
 """division_smt.py [--listing PROGRAM] [--solver PROGRAM] [--queries FOLDER] [--self-test]: Div and Divw against the manual, for all values.
 
-Takes the lines that the listing (default: target/bin/listing of the repository) prints for `0 Div 3 1 2 0` and `0 Divw 3 1 2 0`, translates
+Takes the lines that the listing (default: crates/listing/out/listing) prints for `0 Div 3 1 2 0` and `0 Divw 3 1 2 0`, translates
 every one of them into SMT-LIB, and asks the solver (default: z3 on the path; it must take z3's options -T:60 and -in) about rd's flow, which is
 the last line `ite 2 58 RESULT OLD`. x1, x2, the old flow of x3 and the flag are any values. The manual is the RISC-V Unprivileged ISA
 (20191213), section 7.2, written below case by case. A division is ordinary (document 02, R-4) when its divisor isn't zero and, for Divw, the pair
@@ -60,7 +60,7 @@ import command
 import values
 from btor2_values import BIT, FLAG, START_SORTS, WORDS, Node, ill_sorted
 
-LISTING = values.HERE.parent / "target" / "bin" / "listing"
+LISTING = command.program("listing")
 SECONDS = 60  # for a query
 X1, X2, X3 = 24, 25, 26  # the start's lines of these registers
 KINDS = {"Div": 64, "Divw": 32}  # the bits of the operands

@@ -10,7 +10,7 @@
     tools/evaluation_cases.py answer [VARIANT] < commands   answers commands as the program must; VARIANT is the name of a wrong reading
 
     --folder FOLDER     instead of crates/evaluation_cases, for `write` and `check`
-    --listing PROGRAM   instead of target/bin/listing, for all but `answer`
+    --listing PROGRAM   instead of crates/listing/out/listing, for all but `answer`
 
 The answers are evaluator.py's, a reading of R-2 of its own. Beside most cases stands what it must be, worked by hand. The operators are compared
 with those of btor2_values.py, and rd's flow, the conditions of a branch and the cells of a store, over the lines that the listing prints for all
@@ -26,6 +26,7 @@ import random
 import sys
 
 import btor2_values
+import command
 import evaluation_variants
 import values as listing_values
 from btor2_values import COUNTER, COUNTER_MAX, FLAG, START_SORTS
@@ -37,7 +38,7 @@ from refusal import KINDS as INSTRUCTIONS
 from riscv_manual import MANUAL, TAKEN, accessed, loaded
 
 REPOSITORY = pathlib.Path(__file__).resolve().parent.parent
-LISTING = REPOSITORY / "target" / "bin" / "listing"
+LISTING = command.program("listing")
 ALL = 2**64
 TOP = ALL - 1
 BYTES = tuple(range(11, 18))  # the sorts of inputs of 1 to 7 bytes

@@ -1,9 +1,9 @@
 #!/usr/bin/env python3
 """evaluation_lowered.py [--program PROGRAM] [--listing PROGRAM] [--draws N] [--lists N]: what the bench says of lowered and of drawn lines.
 
-Gives instructions of all fifty kinds to the listing (default: target/bin/listing of the repository), turns the lines that it prints into records,
+Gives instructions of all fifty kinds to the listing (default: crates/listing/out/listing), turns the lines that it prints into records,
 hands them with boundary-heavy and drawn registers, memory, counters and flags to the program of crates/evaluation_cases (default:
-target/bin/evaluation_cases, which `rt check evaluation_cases` builds), asks for rd's flow, a branch's conditions and cells of a store's memory
+crates/evaluation_cases/out/evaluation_cases, which `rt run` there makes), asks for rd's flow, a branch's conditions and cells of a store's memory
 flow, and compares
 
 - value and visits with evaluator.py;
@@ -29,7 +29,7 @@ from evaluator import BIT, MEMORY, MOST_LINES, WORD
 from refusal import KINDS as INSTRUCTIONS
 from refusal import LOADS, STORES
 
-PROGRAM = REPOSITORY / "target" / "bin" / "evaluation_cases"
+PROGRAM = command.program("evaluation_cases")
 MOST_BYTES = 262_144  # of the program's input
 SHOWN = 10  # differences
 AT_ONCE = 10  # values that a listing is tried on in one unit

@@ -1,8 +1,8 @@
 #!/usr/bin/env python3
 """flags.py [--program PROGRAM] [--self-test]: lists of calls under several flags, on random values: what demand 3 says of them.
 
-The listing lowers every instruction under one flag. Here PROGRAM (default: target/bin/lowering_cases of the repository, which
-`rt check lowering_cases` makes) lowers lists of calls, each under a flag of its own: the state `flag`, the bits 0 and 1, or a Bit line that an
+The listing lowers every instruction under one flag. Here PROGRAM (default: crates/lowering_cases/out/lowering_cases,
+which `rt run` in that crate makes) lowers lists of calls, each under a flag of its own: the state `flag`, the bits 0 and 1, or a Bit line that an
 earlier call appended, such as a branch's condition. Flows start elsewhere than at their nodes. Among the calls are such as must be refused:
 a record of 1 to 6 (also Mul and Mulw, which are in no list otherwise), a flag that is absent or no Bit (7), and in long lists those for which
 there is no room (8).
@@ -26,6 +26,7 @@ import random
 import subprocess
 import sys
 
+import command
 from btor2_values import BIT, COUNTER, COUNTER_MAX, FLAG, MEMORY, START_SORTS, WORD, WORDS, Array, Node, evaluate, ill_sorted
 from lowering_cases import FIRST, HOLDS, OPERATORS, START
 from refusal import BRANCHES, KINDS, LOADS, NO_RD, REGISTERS, STORES, UPPER, appended, refusal
@@ -480,7 +481,7 @@ def self_test(program):
 
 def main():
     parser = argparse.ArgumentParser(description="Lists of calls under several flags: what demand 3 says of them.")
-    parser.add_argument("--program", default=HERE.parent / "target" / "bin" / "lowering_cases", type=pathlib.Path)
+    parser.add_argument("--program", default=command.program("lowering_cases"), type=pathlib.Path)
     parser.add_argument("--self-test", action="store_true")
     chosen = parser.parse_args()
     program = chosen.program.resolve()

@@ -6,11 +6,12 @@ one after it would fit. The program must stop at the first that fails, and must 
 """
 import fcntl
 import os
-import pathlib
 import subprocess
 import sys
 
-LISTING = pathlib.Path(__file__).resolve().parent.parent / "target" / "bin" / "listing"
+import command
+
+LISTING = command.program("listing")
 PIPE = 4096
 LONG = b"65536 Mulw 5 6 7 0"  # 35 lines
 SHORT = b"65536 Lwu 0 0 0 0"  # refused

@@ -1,7 +1,7 @@
 #!/usr/bin/env python3
 """values.py [--listing PROGRAM] [--self-test]: what the listing's lines come to, against the RISC-V manual.
 
-Gives instructions of all fifty kinds to PROGRAM (default: target/bin/listing of the repository), evaluates every line that it prints by
+Gives instructions of all fifty kinds to PROGRAM (default: crates/listing/out/listing), evaluates every line that it prints by
 BTOR2's operators as SMT-LIB defines them, on boundary-heavy registers and memory, and compares
 
 - rd's flow with the manual's value and the memory flow with the manual's store, byte by byte, where the flag (58) is 1;
@@ -33,6 +33,7 @@ import re
 import subprocess
 import sys
 
+import command
 from btor2_values import ARRAY, COUNTER, COUNTER_MAX, FLAG, MEMORY, WORD, WORDS, Array, Node, evaluate, ill_sorted
 from refusal import BRANCHES, KINDS, LOADS, REGISTERS, STORES, UPPER, Listing, refusal
 from riscv_manual import MANUAL, TAKEN, accessed, loaded, signed
@@ -409,7 +410,7 @@ def self_test(program):
 
 def main():
     parser = argparse.ArgumentParser(description="What the listing's lines come to, against the RISC-V manual.")
-    parser.add_argument("--listing", default=HERE.parent / "target" / "bin" / "listing", type=pathlib.Path)
+    parser.add_argument("--listing", default=command.program("listing"), type=pathlib.Path)
     parser.add_argument("--self-test", action="store_true")
     chosen = parser.parse_args()
     program = chosen.listing.resolve()

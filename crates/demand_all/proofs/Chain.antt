@@ -1,20 +1,17 @@
 -- Call by call: what the host keeps passes on as demand 3's does. Assumes nothing.
-use Prim.Native.Nat.{ℕ, ◌+◌, ◌≤◌}
-use native.Mathlib.Omega.{arith}
+use Prim.Native.Nat.{ℕ, ◌≤◌}
 use mathlib.Core.Path.{◌≡◌, refl, sym, ap, subst, ◌∙◌}
 use mathlib.Core.Bool.{Bool, true, false, cond}
 use mathlib.Core.List.{List, [], ◌∷◌}
 use borrow.Author.Tests.{le-ltb, eq-eqb, ne_eqb, eqb-true, eqb-false}
 use lib.Dec.{eqb}
 use lib.ListN.{length, set, length-set}
-use Rattle.btor2.specs.declared.NodeRef.{NodeRef}
 use Rattle.btor2_list.specs.Record.{words_for}
-use Rattle.builder.specs.declared.Tally.{Tally}
 use Rattle.state.specs.Roles.{role_count}
 use Rattle.state.specs.declared.State.{State}
 use Rattle.lowering.specs.Lowering.{Lent, lent, Answer, lowering}
 use Rattle.state.specs.Words.{state_words, state_in, roles_in, with_state}
-use Rattle.lowering.specs.Words.{Given, given_by, lowering_words}
+use Rattle.lowering.specs.Words.{given_by, lowering_words}
 use Rattle.lowering.proofs.Refused.{refused_kept}
 use Rattle.state.proofs.Words.{by_six, size_in, state_kept, put_length}
 use Rattle.lowering.proofs.Words.{read_back}
@@ -28,7 +25,7 @@ use Rattle.join.specs.Join.{join_settled, join_refused, join_store, joining, Joi
 use Rattle.join.specs.Words.{joining_words, join_by}
 use Rattle.join.proofs.Laws.{refused_leaves, roles_stay}
 use Rattle.demand.proofs.JoinStep.{refusal_is as join-refusal-is}
-use Rattle.demand.specs.Calls.{Held, Request, Join, Call, lower, join, in_front, lent_for, state_for, answer_to, accepted, lent_join, held_join, join_answer_to, join_accepted, step, run}
+use Rattle.demand.specs.Calls.{Held, lower, join, in_front, lent_for, state_for, answer_to, accepted, lent_join, held_join, join_answer_to, join_accepted, step, run}
 use Rattle.demand_all.specs.Chain.{Kept, LowerLink, JoinLink, Link, lowers, joins, with_counts, answer_by, join_answer_by, after, chain, request_for, join_for, call_for, chain_calls, held_in, PassesOn, ChainIsRun}
 use Rattle.demand_all.proofs.Many.{front_self, refused_lent}
 

@@ -2,7 +2,7 @@
 -- speaks of. The host keeps the list, our name area and the state's words; between two calls it may lend other lists of edges, dispatches, bads
 -- and sequentials and set their counts: "edge, dispatch and bad lists may change in between".
 use Rattle.std.specs.Prelude.{ℕ, ◌≤◌, ◌≡◌, List, [], ◌∷◌, length, set}
-use Rattle.lowering.specs.Lowering.{Lent, lent}
+use Rattle.lowering.specs.Lowering.{lent}
 use Rattle.state.specs.Words.{edges_word, dispatches_word, bads_word, state_words, state_in}
 use Rattle.lowering.specs.Words.{Given, lowering_words}
 use Rattle.lowering.specs.declared.LowerCall.{LowerCall}

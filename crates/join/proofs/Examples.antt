@@ -1,7 +1,7 @@
 -- Joins on a small start, computed: what each refuses, and what an accepted one gives. Assumes nothing.
-use Prim.Native.Nat.{ℕ, ◌+◌, ◌*◌, ◌/◌}
+use Prim.Native.Nat.{ℕ, ◌+◌, ◌/◌}
 use mathlib.Core.Path.{◌≡◌, refl}
-use mathlib.Core.Bool.{Bool, true, cond, ◌&&◌}
+use mathlib.Core.Bool.{Bool, true, ◌&&◌}
 use mathlib.Core.List.{List, [], ◌∷◌, ◌++◌, map}
 use lib.Dec.{T, eqb}
 use lib.ListN.{length, replicate, take, drop}
@@ -29,7 +29,7 @@ use Rattle.join.specs.declared.JoinHeld.{JoinHeld}
 use Rattle.join.specs.Program.{names_of, nexts_of, from_edge, join_edges, join_dispatches, join_address}
 use Rattle.join.specs.Given.{no_flag}
 use Rattle.join.specs.Refusal.{JoinLent, join_lent, JoinInput, join_input, join_program, flags_out, join_line_count, join_room_out, join_refusal}
-use Rattle.join.specs.Join.{JoinAnswer, join_settled, joining}
+use Rattle.join.specs.Join.{join_settled, joining}
 
 -- ---- the start: the bits 0 and 1, a word, a memory, a bit's state, another 0, and a Next, which is no value line
 

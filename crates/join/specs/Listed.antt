@@ -4,8 +4,7 @@ use Rattle.btor2.specs.Op as O
 use Rattle.btor2.specs.Op.{Op}
 use Rattle.btor2_list.specs.Records.{put_record}
 use Rattle.builder.specs.Prog.{Prog, Run, ran, exec}
-use Rattle.builder.specs.declared.Tally.{Tally}
-use Rattle.builder.specs.Append.{Store, at, append}
+use Rattle.builder.specs.Append.{Store, append}
 
 abbrev pub is_next : {A : Type 0} → Op A → Bool
 is_next (O.const s n) = false

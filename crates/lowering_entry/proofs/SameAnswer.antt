@@ -9,7 +9,7 @@ use borrow.Author.Tests.{lt-ltb, le-ltb, ltb-true, ltb-false, eqb-true}
 use lib.Dec.{eqb, ltb}
 use lib.ListN.{length, replicate, set, length-set, length-replicate}
 use Rattle.btor2.specs.declared.NodeRef.{NodeRef}
-use Rattle.builder.specs.Append.{Store, at, run_for}
+use Rattle.builder.specs.Append.{Store, run_for}
 use Rattle.builder.specs.Prog.{Run}
 use Rattle.edges.specs.Edges.{edge, edge_count, edges_after}
 use Rattle.btor2_list.specs.Records.{put_record}

@@ -5,7 +5,7 @@ use Rattle.builder.specs.Append.{append_line}
 use Rattle.builder.proofs.append_line.Goals as goal
 
 pub overflow_add-result : goal.overflow_add-result
-overflow_add-result c = 
+overflow_add-result c =
     let a = c.args in
     let there : a.given.lines < capacity (length a.list.now) = ltb-true _ _ (sym c.put.ensures.stored ∙ c.if-put.true) in
     record { fits = omega (arith, there, c.well_formed.0.0) }

@@ -4,7 +4,7 @@ use Rattle.builder_ops.proofs.new_sra.Goals as goal
 
 pub returns : goal.returns
 unfolding new_sra
-returns c = 
+returns c =
     on _ c.new_const-c.ensures (
     on _ c.new_bin-s.ensures (
     on _ c.new_bin-x.ensures (

@@ -3,7 +3,7 @@ use Rattle.std.proofs.Common.{◌+◌, ◌/◌, ◌≤◌, length, arith, le-ltb
 use Rattle.edges.proofs.put_second.Goals as goal
 
 pub returns-then-count-edges : goal.returns-then-count-edges
-returns-then-count-edges c = 
+returns-then-count-edges c =
     let a = c.args in
     let past : length a.edges.now / 4 ≤ a.count + 1 = omega arith in
     rw (le-ltb _ _ past)

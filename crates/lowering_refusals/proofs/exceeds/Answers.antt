@@ -11,7 +11,7 @@ by_difference : (r c n : ℕ) → c ≤ r → ltb (r - c) n ≡ ltb r (c + n)
 by_difference r c n h = by_le n (r - c) (λ l. rw (le-ltb (r - c) n l, le-ltb r (c + n) (omega arith))) (λ l. rw (lt-ltb (r - c) n l, lt-ltb r (c + n) (omega arith)))
 
 pub returns-then-room-count : goal.returns-then-room-count
-returns-then-room-count c = 
+returns-then-room-count c =
     let a = c.args in
     sym (lt-ltb a.room (a.count + a.more) (omega (arith, c.if-room-count.true)))
 

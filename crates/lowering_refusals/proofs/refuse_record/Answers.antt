@@ -1,5 +1,5 @@
 -- The tests come in the definition's order, and each answers as its own definition does. Assumes nothing.
-use Rattle.std.proofs.Common.{ℕ, List, eqb, Bool, true, false, ◌&&◌}
+use Rattle.std.proofs.Common.{ℕ, List, eqb, Bool, false, ◌&&◌}
 use mathlib.Core.Path.{◌≡◌, refl, sym, ap, ◌∙◌}
 use mathlib.Core.Bool.{not}
 use mathlib.Core.List.{[]}

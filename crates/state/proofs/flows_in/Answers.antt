@@ -6,6 +6,6 @@ use Rattle.state.proofs.flows_in.Goals as goal
 
 pub returns : goal.returns
 unfolding flows_in
-returns c = 
+returns c =
     let ws = c.args.words.now in
     rw (role_at ws counter_flow (omega arith), role_at ws maximum_flow (omega arith), role_at ws division_flow (omega arith), role_at ws remainder_flow (omega arith), role_at ws access_flow (omega arith), role_at ws addition_flow (omega arith), role_at ws multiplication_flow (omega arith), role_at ws ecall_flow (omega arith))

@@ -6,7 +6,7 @@ use Rattle.state.proofs.operands_in.Goals as goal
 
 pub returns : goal.returns
 unfolding operands_for
-returns c = 
+returns c =
     let a = c.args in
     let ws = a.words.now in
     let rs1 = c.node_role in

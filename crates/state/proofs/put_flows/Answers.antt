@@ -31,7 +31,7 @@ shape_of-words c = simp length-set
 
 pub returns : goal.returns
 unfolding with_flows
-returns c = 
+returns c =
     let f = c.args.f in
     kept_is
     (put (put (put (put (put (put (put (put (unchanged c.args.words.now c.requires) counter_flow f.counter.0 (omega arith)) maximum_flow f.maximum.0 (omega arith)) division_flow f.division.0 (omega arith))

@@ -18,7 +18,7 @@ unfolding with_flows
 flows_size roles f = simp length-set
 
 pub returns : goal.returns
-returns c = 
+returns c =
     let a = c.args in
     let ws = a.words.now in
     let set-flows : List NodeRef → List NodeRef = λ roles. with_flows roles (flows_of a.flows) in

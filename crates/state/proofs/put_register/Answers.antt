@@ -14,7 +14,7 @@ pub returns-then-rd-gt-LAST_REGISTER : goal.returns-then-rd-gt-LAST_REGISTER
 returns-then-rd-gt-LAST_REGISTER c = rw (ne_eqb _ 0 c.if-rd-eq0.false, lt-ltb last_register _ c.if-rd-gt-LAST_REGISTER.true) (kept_is (unchanged c.args.words.now c.requires))
 
 pub returns : goal.returns
-returns c = 
+returns c =
     let a = c.args in
     rw (ne_eqb _ 0 c.if-rd-eq0.false, le-ltb last_register _ c.if-rd-gt-LAST_REGISTER.false)
     (kept_is (put (unchanged a.words.now c.requires) (register_flows + a.rd) a.x.0 (omega (arith, c.if-rd-gt-LAST_REGISTER.false))))

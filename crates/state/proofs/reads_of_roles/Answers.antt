@@ -5,7 +5,7 @@ use Rattle.state.proofs.Words.{role_at, role_by}
 use Rattle.state.proofs.reads_of_roles.Goals as goal
 
 pub returns : goal.returns
-returns c = 
+returns c =
     let a = c.args in
     let ws = a.words.now in
     let rd = c.flow_role in

@@ -1,5 +1,4 @@
 -- As many roles as were passed are read. Assumes nothing.
-use Prim.Native.Nat.{◌-◌}
 use mathlib.Core.Path.{◌≡◌, refl, ap, ◌∙◌, sym}
 use mathlib.Core.List.{List}
 use native.Mathlib.Omega.{arith}
@@ -15,7 +14,7 @@ pub loop-k-init : goal.loop-k-init
 loop-k-init c = (omega arith, refl, refl, refl)
 
 pub loop-k-preserved : goal.loop-k-preserved
-loop-k-preserved c = 
+loop-k-preserved c =
     let l = c.loop-k in
     let a = c.args in
     let read : ref c.word_at-place.result ≡ role (roles_in a.words.now) l.k = ap ref c.word_at-place.ensures ∙ sym (role_at a.words.now l.k c.loop-k-test.true) in (
@@ -28,7 +27,7 @@ loop-k-preserved c =
     )
 
 pub returns : goal.returns
-returns c = 
+returns c =
     let l = c.loop-k in
     let a = c.args in
     let all : l.k ≡ role_count = omega (arith, l.invariant.0, c.loop-k-test.false) in

@@ -1,7 +1,7 @@
 -- The six words before the roles, then as many roles as were passed. Assumes nothing.
-use Prim.Native.Nat.{ℕ, ◌+◌, ◌-◌, ◌<◌}
+use Prim.Native.Nat.{ℕ, ◌+◌, ◌<◌}
 use mathlib.Core.Path.{◌≡◌, refl, sym, ap, ◌∙◌}
-use mathlib.Core.List.{List, ◌++◌, map}
+use mathlib.Core.List.{List, map}
 use native.Mathlib.Omega.{arith}
 use borrow.Author.Rules.{rules}
 use lib.ListN.{length, length-set, length-append, length-map, get_or, set, take, replicate, get_or-map}
@@ -36,7 +36,7 @@ pub loop-k-init : goal.loop-k-init
 loop-k-init c = (omega arith, refl, search rules, refl, refl)
 
 pub loop-k-preserved : goal.loop-k-preserved
-loop-k-preserved c = 
+loop-k-preserved c =
     let l = c.loop-k in
     let a = c.args in
     let words₀ = sets (replicate state_words 0) 0 (six a.t a.c) in (
@@ -49,7 +49,7 @@ loop-k-preserved c =
 
 pub returns : goal.returns
 unfolding state_out
-returns c = 
+returns c =
     let l = c.loop-k in
     let a = c.args in
     let words₀ = sets (replicate state_words 0) 0 (six a.t a.c) in

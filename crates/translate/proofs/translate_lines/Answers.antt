@@ -5,7 +5,7 @@ use Rattle.translate.proofs.translate_lines.Goals as goal
 
 pub returns : goal.returns
 unfolding translate
-returns c = 
+returns c =
     rw c.shape_of-shape.ensures
     (on _ c.model_shape-m.ensures
     (on _ c.settle_flow-n.ensures (rw (← c.class_of-class.ensures, ← c.has_bad-bad.ensures) c.model_unimplemented.ensures)))

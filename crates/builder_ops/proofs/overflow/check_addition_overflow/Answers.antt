@@ -4,7 +4,7 @@ use Rattle.builder_ops.proofs.overflow.check_addition_overflow.Goals as goal
 
 pub returns : goal.returns
 unfolding check_addition_overflow
-returns c = 
+returns c =
     on _ c.new_const-bits.ensures (
     on _ c.new_bin-x.ensures (
     on _ c.new_bin-y.ensures (

@@ -4,7 +4,7 @@ use Rattle.builder_ops.proofs.overflow.check_multiplication_overflow.Goals as go
 
 pub returns : goal.returns
 unfolding check_multiplication_overflow
-returns c = 
+returns c =
     on _ c.new_const-bits.ensures (
     on _ c.new_bin-x.ensures (
     on _ c.new_bin-y.ensures (

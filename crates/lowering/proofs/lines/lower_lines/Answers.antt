@@ -12,6 +12,6 @@ shape_of-list c = ap length c.address_lines.ensures ∙ addressed_length _ _ _ _
 
 pub returns : goal.returns
 unfolding program_with
-returns c = 
+returns c =
     let a = c.args in
     rw (c.address_lines.ensures, ← c.constant_of-imm.ensures) (addressed_after a.address c.translate_lines-m.ensures)

@@ -4,7 +4,7 @@ use Rattle.models_immediate.proofs.shifts.model_slliw.Goals as goal
 
 pub returns : goal.returns
 unfolding model_slliw
-returns c = 
+returns c =
     on _ c.new_const-c.ensures (
     on _ c.new_const-thirtytwo.ensures (
     on _ c.new_bin-x.ensures (

@@ -4,7 +4,7 @@ use Rattle.models_memory.proofs.counted.counted_read.Goals as goal
 
 pub returns : goal.returns
 unfolding counted_read
-returns c = 
+returns c =
     on _ c.new_read-current.ensures (
     on _ c.new_bin-next.ensures (
     on _ c.new_bin-above.ensures (

@@ -4,7 +4,7 @@ use Rattle.models_memory.proofs.loads.model_l.Goals as goal
 
 pub returns : goal.returns
 unfolding model_l
-returns c = 
+returns c =
     on _ c.word_address-word.ensures (
     on _ c.new_ite-access.ensures (
     on _ c.new_read-cell.ensures (

@@ -4,7 +4,7 @@ use Rattle.models_memory.proofs.stores.model_s.Goals as goal
 
 pub returns : goal.returns
 unfolding model_s
-returns c = 
+returns c =
     on _ c.word_address-word.ensures (
     on _ c.new_ite-access.ensures (
     on _ c.counted_read-c.ensures (

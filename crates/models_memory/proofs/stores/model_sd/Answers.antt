@@ -4,7 +4,7 @@ use Rattle.models_memory.proofs.stores.model_sd.Goals as goal
 
 pub returns : goal.returns
 unfolding model_sd
-returns c = 
+returns c =
     on _ c.model_address-address.ensures (
     on _ c.new_ite-access.ensures (
     on _ c.new_write-cell.ensures (

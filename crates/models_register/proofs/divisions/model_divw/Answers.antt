@@ -4,7 +4,7 @@ use Rattle.models_register.proofs.divisions.model_divw.Goals as goal
 
 pub returns : goal.returns
 unfolding model_divw
-returns c = 
+returns c =
     on _ c.new_const-thirtytwo.ensures (
     on _ c.new_sext_by-left.ensures (
     on _ c.new_sext_by-right.ensures (

@@ -4,7 +4,7 @@ use Rattle.models_register.proofs.sums.model_sllw.Goals as goal
 
 pub returns : goal.returns
 unfolding model_sllw
-returns c = 
+returns c =
     on _ c.new_const-thirtytwo.ensures (
     on _ c.new_const-mask.ensures (
     on _ c.new_and_word-amount.ensures (

@@ -2,7 +2,6 @@
 use mathlib.Core.Path.{refl, sym, ap, ◌∙◌}
 use mathlib.Core.Bool.{not}
 use Rattle.state.proofs.Fit.{fit_on, fit_not, fit_end}
-use Prim.Native.Nat.{◌-◌}
 use native.Mathlib.Omega.{arith}
 use borrow.Author.Rules.{rules}
 use Rattle.btor2.specs.Sort.{sort_number}
@@ -19,13 +18,13 @@ pub role_out-requires : goal.role_out-requires
 role_out-requires c = search rules
 
 pub returns-then-role_out : goal.returns-then-role_out
-returns-then-role_out c = 
+returns-then-role_out c =
     let a = c.args in
     sym (ap not (sym c.loop-role.invariant.2 ∙ fit_not a.list.now a.lines a.roles c.loop-role.role (omega arith)
     (out_not c.role_out.result (value_sort (look_at a.list.now a.lines (role a.roles c.loop-role.role).0)) c.role_sort-sort.result (sort_number (role_sort c.loop-role.role)) c.role_out.ensures c.role_sort-sort.ensures.is c.if-role_out.true)))
 
 pub loop-role-preserved : goal.loop-role-preserved
-loop-role-preserved c = 
+loop-role-preserved c =
     let a = c.args in (
       omega arith,
       c.loop-role.invariant.1,
@@ -34,6 +33,6 @@ loop-role-preserved c =
     )
 
 pub returns : goal.returns
-returns c = 
+returns c =
     let a = c.args in
     sym (ap not (sym c.loop-role.invariant.2 ∙ fit_end a.list.now a.lines a.roles c.loop-role.role (omega arith)))

@@ -2,7 +2,7 @@
 use mathlib.Core.Path.{◌≡◌}
 use Prim.Native.Nat.{◌≤◌, ◌-◌}
 use lib.ListN.{length, drop}
-use Rattle.state.specs.Roles.{role, role_count}
+use Rattle.state.specs.Roles.{role_count}
 use Rattle.state.specs.RolesFit.{roles_fit}
 use Rattle.state.proofs.roles_check.roles_out.Given as goal
 

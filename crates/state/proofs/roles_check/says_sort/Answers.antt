@@ -6,7 +6,7 @@ use Rattle.state.proofs.Sorts.{false_true}
 use Rattle.state.proofs.roles_check.says_sort.Goals as goal
 
 pub returns-then-line-sort : goal.returns-then-line-sort
-returns-then-line-sort c e = 
+returns-then-line-sort c e =
     let there = found c.args.list.now c.args.place.0 _ (sym c.get.ensures ∙ c.in-Line.is) in
     (there.0, rw there.1 (c.says_own_sort.ensures _ c.args.sort refl c.if-line-sort.true c.requires.0 c.requires.1 e))
 

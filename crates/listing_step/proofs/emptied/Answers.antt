@@ -1,0 +1,8 @@
+-- Field by field. Assumes nothing.
+use mathlib.Core.Path.{refl}
+use Rattle.listing_bytes.specs.Step.{emptied}
+use Rattle.listing_step.proofs.emptied.Goals as goal
+
+pub returns : goal.returns
+unfolding emptied
+returns c = refl
