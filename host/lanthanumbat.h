@@ -1,5 +1,5 @@
 // Lowering RV64 instructions to BTOR2 lines, each with the address of its instruction, joining their edges into flags, and evaluating lines on
-// given values, for a host in C. `rt staticlib host` writes target/staticlib/libhost.a, which defines these functions; it calls memcpy and memset
+// given values, for a host in C. `rt lib` in crates/host writes out/libhost.a there, which defines these functions; it calls memcpy and memset
 // and nothing else. What each gives is proved equal to a definition: crates/lowering/specs (Words, All), crates/join/specs (Words),
 // crates/evaluation/specs (Evaluation) and crates/host/specs.
 //

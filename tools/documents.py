@@ -10,7 +10,7 @@ Of README.md and docs/ (CLAIMS, TRUST, SORTS, DIFFERENCES, DECISIONS and SPEED; 
 - a word with an underscore or a slash outside backquotes is a crate, an edit or a file, and so is a capitalised one in README's list of
   what to read;
 - docs/CLAIMS.md names every edit, and README's map every crate, each after those that it depends on;
-- the table of docs/SORTS.md is that of the definition, and the code has the same sort lines;
+- the table of docs/SORTS.md is that of the definition;
 - docs/TRUST.md lists every file of definitions once, with its lines; the files that it calls private are used by no other file of
   definitions and by no contract of a public function, but for the programs that run cases;
 and of the definitions that no name is defined in two files, but for those of TWICE. It proves nothing and needs Python alone.
@@ -33,11 +33,12 @@ FOREIGN = {
     ),
     "Rust": ("FnOnce", "Rc::ptr_eq", "format!", "match"),
     "Rattle and its library": (
-        "cond t a b", "elim t [ true ↦ a | false ↦ b ]", "eqb", "getD l p d", "leb", "ltb",
-        "now (x .entry)", "now (x .exit)", "pub(crate)", "requires",
+        "cond t a b", "elim t [ true ↦ a | false ↦ b ]", "eqb", "leb", "ltb", "pub(crate)", "rattle-kit-13f logic dac8208d650f15bf",
+        "requires", "result", "slice_index_or l p d", "x.new", "x.now", "x.old",
     ),
     "shell, and what tools say": (
-        "GLIBC_TUNABLES=glibc.malloc.hugetlb=1", "axioms=2", "native=nat,char,string", "tee", "valgrind --tool=callgrind",
+        "GLIBC_TUNABLES=glibc.malloc.hugetlb=1", "axioms=4", "libraries-built=trusted", "logic-built=trusted", "native=nat,char,string",
+        "statements=trusted", "tee", "valgrind --tool=callgrind",
     ),
     "text that is read or written": (
         " ; ", "; dyn REGISTER", "; refused LINE NUMBER", "< 32", "?", "Compressed", "add x x", "imm < 64",
@@ -47,16 +48,19 @@ FOREIGN = {
 }
 
 # Names that two files of definitions have, each for what is called so where it comes from.
-TWICE = {"step", "_>>=_"}
+TWICE = {"step", "◌>>=◌", "Lists"}
 
 # Capitalised words in README's list of what to read that are no files.
 PROPER = {"Rust"}
 
-# The definition that has the table of SORTS, and the code that has its sort lines beside the numbers.
-SORTS_DEFINED, SORTS_CODED = "crates/btor2/specs/Sort.antt", "crates/btor2/src/lib.rt"
+# The definition that has the table of SORTS.
+SORTS_DEFINED = "crates/btor2/specs/SortTable.antt"
 
 # What is made by a command and not stored.
-MADE = ("target/", "bench/target/")
+MADE = re.compile(r"(\w+/)*(out|target)/")
+
+# What `rt` is called with.
+COMMANDS = ("all", "check", "ci", "fmt", "lemma", "lib", "must-fail", "run", "test", "tidy", "try", "version")
 
 # Where names are defined.
 SOURCES = (
@@ -119,8 +123,9 @@ class Tree:
         self.crates = {path.name for path in self.root.glob("crates/*") if path.is_dir()}
         self.uses = {}
         for line in self.text("crates.txt").splitlines():
-            crate, _, used = line.partition(":")
-            self.uses[crate] = used.split()
+            crate, colon, used = line.partition("#")[0].partition(":")
+            if colon:
+                self.uses[crate.split()[0]] = used.split()
         self.edits = collections.defaultdict(set)  # of an edit, the crates that have it
         for path in self.root.glob("crates/*/must-fail/*.edit"):
             self.edits[path.stem].add(path.parent.parent.name)
@@ -209,10 +214,11 @@ def lines_of(tree, name):
 def command_error(tree, words):
     """What is wrong with a command whose first word is rt's or a path."""
     if words[0] == "rt":
-        if words[1:2] and words[1] not in ("check", "try", "dev", "staticlib", "fmt", "ci", "must-fail"):
+        if words[1:2] and words[1] not in COMMANDS:
             return f"rt has no command {words[1]} that is known here"
-        return next((f"{word} is no crate" for word in words[2:3] if word not in tree.crates), None)
-    return None if words[0].startswith(MADE) or tree.found(words[0]) else f"there is no {words[0]}"
+        named = words[2:3] if words[1:2] == ["ci"] else ()
+        return next((f"{word} is no crate" for word in named if word not in tree.crates), None)
+    return None if MADE.match(words[0]) or tree.found(words[0]) else f"there is no {words[0]}"
 
 
 def name_error(tree, token, foreign):
@@ -274,7 +280,7 @@ def word_errors(tree, foreign, counted):
         for number, line in lines_of(tree, document):
             plain = re.sub(r"https?://[^\s)]+|\.\./[\w./-]+|\*\*", "", QUOTED.sub("", line))
             for path in PATH.findall(plain):
-                if not path.startswith(MADE) and path not in foreign:
+                if not MADE.match(path) and path not in foreign:
                     counted["paths"] += 1
                     if not tree.found(path):
                         yield document, number, f"there is no {path}"
@@ -354,7 +360,7 @@ def twice_errors(tree, counted):
 
 def sort_errors(tree, counted):
     """The rows of SORTS: a sort line without its remark, and then what the definition says beside that line."""
-    defined = re.findall(r"^sortRow (\w+) = is (\d+) (\d+) (\d+) +-- (.*)$", tree.text(SORTS_DEFINED), re.M)
+    defined = re.findall(r"^sort_row (\w+) = row (\d+) (\d+) (\d+) +-- (.*)$", tree.text(SORTS_DEFINED), re.M)
     rows = []
     for number, line in lines_of(tree, SORTS):
         if re.match(r"\| \d+ sort ", line):
@@ -366,9 +372,6 @@ def sort_errors(tree, counted):
             yield SORTS, number, f"the row is {' | '.join(row)} and should be {' | '.join(right)}"
     if not defined or len(rows) != len(defined):
         yield SORTS, 0, f"there are {len(rows)} sorts, and {len(defined)} in {SORTS_DEFINED}"
-    coded = re.findall(r"NodeType::(\w+) => (\d+), // (.*)$", tree.text(SORTS_CODED), re.M)
-    if coded != [(sort, number, sort_line) for sort, number, _, _, sort_line in defined]:
-        yield SORTS_CODED, 0, f"the sort lines are not those of {SORTS_DEFINED}"
 
 
 PRIVATE = re.compile(r"\(([\d,]+) more files, ([\d,]+) lines, [^:]*: ([^.]*)\.")
@@ -408,7 +411,7 @@ def file_errors(tree, counted):
 
 def used_file(line):
     """The file of definitions, crate/File, that a line of a file takes names from, or None."""
-    match = re.match(r"(?:ghost )?(?:pub )?use Rattle·(\w+?)(?:·specs\.specs|\.specs)\.(\w+)(?=[. ;]|$)", line)
+    match = re.match(r"(?:ghost )?(?:pub )?use Rattle\.(\w+)\.specs\.(\w+)(?=[. ;]|$)", line)
     return f"{match[1]}/{match[2]}" if match else None
 
 

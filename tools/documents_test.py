@@ -16,7 +16,7 @@ FILES = {
     "crates.txt": "lines: \ncase_line: lines\ncalls_made: lines\nlisting: calls_made lines io\nline_cases: case_line lines\n",
     "README.md": """# A tree
 
-`tools/show.py 3` shows it, `rt check listing` proves it: the listing and what
+`tools/show.py 3` shows it, `rt ci listing` proves it: the listing and what
 it rests on, 3 crates. See [the Rust](https://example.org/no/file) and ../elsewhere/no_file.
 
 ## The crates
@@ -58,35 +58,34 @@ A name is the file's (crates/CRATE/must-fail).
     "docs/DECISIONS.md": "docs/TRUST.md, lines/src/lib.rt and `MOST_LINES`.\n",
     "docs/SPEED.md": "line_cases runs.\n",
     "docs/SORTS.md": "| sort line | sort | number |\n|---|---|---|\n| 1 sort bitvec 1 ; a bit | Bit | 1 | 1 | 63 |\n| 3 sort array 2 2 | Memory | 3 | 0 | 64 |\n",
-    "crates/lines/proofs/Table.antt": "sortRow Bit = is 1 1 63  -- 1 sort bitvec 1\nsortRow Memory = is 3 0 64  -- 3 sort array 2 2\n",
-    "crates/lines/src/sort.rt": "NodeType::Bit => 1, // 1 sort bitvec 1\nNodeType::Memory => 3, // 3 sort array 2 2\n",
+    "crates/lines/proofs/Table.antt": "sort_row Bit = row 1 1 63  -- 1 sort bitvec 1\nsort_row Memory = row 3 0 64  -- 3 sort array 2 2\n",
     "tools/show.py": "def show():\n    pass\n",
     "crates/lines/specs/Lib.antt": "pub mod Line\n",
     "crates/lines/specs/Line.antt": "pub record Line : Type 0 where\n  pub text : ℕ\nabbrev step : ℕ\nstep = 0\n",
     "crates/lines/proofs/Kept.antt": "pub data Kind : Type 0 where\n  Short\n      Long : Kind\n\npub kept : (l : Line) → l ≡ l\n",
-    "crates/lines/src/lib.rt": "pub const MOST_LINES: usize = 4;\n\npub fn put_line(n: u64)\n    ensures { λ _. ⌜ n ≡ n ⌝ }\n{\n}\n",
+    "crates/lines/src/lib.rt": "pub const MOST_LINES: usize = 4;\n\npub fn put_line(n: u64)\n    ensures { n ≡ n }\n{\n}\n",
     "crates/lines/must-fail/line_lost.edit": "",
-    "crates/calls_made/specs/Call.antt": "use Rattle·lines.specs.Line.{Line}\nunfoldable pub called : Line → Line\ncalled l = l\n",
+    "crates/calls_made/specs/Call.antt": "use Rattle.lines.specs.Line.{Line}\nunfoldable pub called : Line → Line\ncalled l = l\n",
     "crates/calls_made/specs/Inside.antt": "abbrev pub inside : ℕ\ninside = 0\n",
-    "crates/calls_made/src/lib.rt": """ghost use Rattle·calls_made·specs.specs.Inside.{inside};
+    "crates/calls_made/src/lib.rt": """ghost use Rattle.calls_made.specs.Inside.{inside};
 
 pub fn call(n: u64)
-    ensures { λ _. ⌜ called n ≡ n ⌝ }
+    ensures { called n ≡ n }
 {
 }
 
 fn part(n: u64)
-    ensures { λ _. ⌜ inside ≡ n ⌝ }
+    ensures { inside ≡ n }
 {
 }
 """,
     "crates/calls_made/must-fail/call_lost.edit": "",
     "crates/calls_made/must-fail/line_lost.edit": "",
     "crates/case_line/specs/Text.antt": "abbrev pub text : ℕ\ntext = 0\n",
-    "crates/case_line/src/lib.rt": """ghost use Rattle·case_line·specs.specs.Text.{text};
+    "crates/case_line/src/lib.rt": """ghost use Rattle.case_line.specs.Text.{text};
 
 pub fn read(n: u64)
-    ensures { λ _. ⌜ n ≡ text ⌝ }
+    ensures { n ≡ text }
 {
 }
 """,
@@ -94,7 +93,7 @@ pub fn read(n: u64)
     "crates/line_cases/src/main.rt": "fn main() {\n}\n",
 }
 
-SORT_FILES = {"SORTS_DEFINED": "crates/lines/proofs/Table.antt", "SORTS_CODED": "crates/lines/src/sort.rt"}
+SORT_FILES = {"SORTS_DEFINED": "crates/lines/proofs/Table.antt"}
 
 NONE = "is no name of the tree, and no foreign one that tools/documents.py lists"
 
@@ -118,9 +117,9 @@ WRONG = [
     ("a file that is gone", "docs/DECISIONS.md", "lines/src/lib.rt", "lines/src/words.rt",
      ["docs/DECISIONS.md:1: there is no lines/src/words.rt"]),
     ("a script that is gone", "README.md", "tools/show.py 3", "tools/hide.py 3", ["README.md:3: there is no tools/hide.py"]),
-    ("a command for no crate", "README.md", "rt check listing", "rt check lasting", ["README.md:3: lasting is no crate"]),
-    ("a command that rt has not", "README.md", "rt check listing", "rt chock listing",
-     ["README.md:3: rt has no command chock that is known here"]),
+    ("a command for no crate", "README.md", "rt ci listing", "rt ci lasting", ["README.md:3: lasting is no crate"]),
+    ("a command that rt has not", "README.md", "rt ci listing", "rt co listing",
+     ["README.md:3: rt has no command co that is known here"]),
     ("a file to read of another crate", "README.md", "(Call)", "(Line)", ["README.md:21: Line is no file of definitions of calls_made"]),
     ("a word that is no crate", "docs/SPEED.md", "line_cases", "lime_cases", ["docs/SPEED.md:1: lime_cases is no crate, edit or file"]),
     ("an edit that is gone", "docs/CLAIMS.md", "call_lost;", "call_kept;",
@@ -153,16 +152,12 @@ WRONG = [
      ["docs/SORTS.md:3: the row is Bit | 1 | 1 | 64 | 1 sort bitvec 1 and should be Bit | 1 | 1 | 63 | 1 sort bitvec 1"]),
     ("a sort line", "docs/SORTS.md", "| 1 sort bitvec 1 ; a bit |", "| 1 sort bitvec 2 ; a bit |",
      ["docs/SORTS.md:3: the row is Bit | 1 | 1 | 63 | 1 sort bitvec 2 and should be Bit | 1 | 1 | 63 | 1 sort bitvec 1"]),
-    ("a sort line of the code", "crates/lines/src/sort.rt", "array 2 2", "array 2 3",
-     ["crates/lines/src/sort.rt: the sort lines are not those of crates/lines/proofs/Table.antt"]),
-    ("a sort's number in the definition", "crates/lines/proofs/Table.antt", "is 3 0 64", "is 4 0 64",
-     ["crates/lines/src/sort.rt: the sort lines are not those of crates/lines/proofs/Table.antt",
-      "docs/SORTS.md:4: the row is Memory | 3 | 0 | 64 | 3 sort array 2 2 and should be Memory | 4 | 0 | 64 | 3 sort array 2 2"]),
+    ("a sort's number in the definition", "crates/lines/proofs/Table.antt", "row 3 0 64", "row 4 0 64",
+     ["docs/SORTS.md:4: the row is Memory | 3 | 0 | 64 | 3 sort array 2 2 and should be Memory | 4 | 0 | 64 | 3 sort array 2 2"]),
     ("a sort without a row", "docs/SORTS.md", "| 3 sort array 2 2 | Memory | 3 | 0 | 64 |\n", "",
      ["docs/SORTS.md: there are 1 sorts, and 2 in crates/lines/proofs/Table.antt"]),
-    ("no table in the definition", "crates/lines/proofs/Table.antt", "sortRow Bit = is 1 1 63  -- 1 sort bitvec 1\nsortRow Memory = is 3 0 64  -- 3 sort array 2 2\n", "",
-     ["crates/lines/src/sort.rt: the sort lines are not those of crates/lines/proofs/Table.antt",
-      "docs/SORTS.md: there are 2 sorts, and 0 in crates/lines/proofs/Table.antt"]),
+    ("no table in the definition", "crates/lines/proofs/Table.antt", "sort_row Bit = row 1 1 63  -- 1 sort bitvec 1\nsort_row Memory = row 3 0 64  -- 3 sort array 2 2\n", "",
+     ["docs/SORTS.md: there are 2 sorts, and 0 in crates/lines/proofs/Table.antt"]),
     ("the lines of a file", "docs/TRUST.md", "| lines/Line | 4 |", "| lines/Line | 5 |", ["docs/TRUST.md:7: it says 5 and should say 4"]),
     ("the lines in all", "docs/TRUST.md", "7 lines in 2", "8 lines in 2", ["docs/TRUST.md:3: it says 8 and should say 7"]),
     ("the files in all", "docs/TRUST.md", "7 lines in 2", "7 lines in 3", ["docs/TRUST.md:3: it says 3 and should say 2"]),
@@ -187,8 +182,8 @@ WRONG = [
      ["docs/TRUST.md:3: it says 2 and should say 3",
       "docs/TRUST.md:3: it says 7 and should say 9",
       "docs/TRUST.md:9: calls_made/Inside stands in the table and among the private files"]),
-    ("a private file that definitions use", "crates/calls_made/specs/Call.antt", "use Rattle·lines.specs.Line.{Line}",
-     "use Rattle·calls_made·specs.specs.Inside as I",
+    ("a private file that definitions use", "crates/calls_made/specs/Call.antt", "use Rattle.lines.specs.Line.{Line}",
+     "use Rattle.calls_made.specs.Inside as I",
      ["crates/calls_made/specs/Call.antt:1: calls_made/Inside is used here and is private by docs/TRUST.md"]),
     ("a private file that a public contract cites", "crates/calls_made/src/lib.rt", "fn part", "pub fn part",
      ["crates/calls_made/src/lib.rt:9: a public contract cites inside of calls_made/Inside, which is private by docs/TRUST.md"]),

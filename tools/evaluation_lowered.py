@@ -24,7 +24,7 @@ import subprocess
 
 import command
 import values as listing_values
-from evaluation_cases import ALL, FIRST, KEEP, LISTING, REPOSITORY, Cases, Drawn, Given, Lowered, manual_values
+from evaluation_cases import ALL, FIRST, KEEP, LISTING, Cases, Drawn, Given, Lowered, manual_values
 from evaluator import BIT, MEMORY, MOST_LINES, WORD
 from refusal import KINDS as INSTRUCTIONS
 from refusal import LOADS, STORES

@@ -33,7 +33,6 @@ from refusal import BRANCHES, KINDS, LOADS, NO_RD, REGISTERS, STORES, UPPER, app
 from riscv_manual import MANUAL, SIZE, accessed, loaded
 from values import BOUNDARIES, DIVISIONS, alterations, byte_of, cells, divided
 
-HERE = pathlib.Path(__file__).resolve().parent
 SHOWN = 10  # differences
 TOP = 2**64 - 1  # a place that no list reaches
 EXCLUDED = {"Mul", "Mulw"}

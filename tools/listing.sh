@@ -5,8 +5,8 @@
 # no FILE where standard input is not a terminal, takes the lines from standard input. With no FILE at a terminal the sample of firmware is
 # listed (samples/firmware.txt).
 #
-# The lines are read, and looked at, before anything is proved. The prover's output goes to target/listing.log; a line on standard error counts
-# the crates that are proved. The listing goes to standard output, and at the end standard error has the number of lines that were refused, with the
+# The lines are read, and looked at, before anything is proved. What the prover says goes to crates/listing/out/listing.log; a line on standard
+# error counts the crates that are proved, those that have not changed since among them. The listing goes to standard output, and at the end standard error has the number of lines that were refused, with the
 # meaning of each number (tools/refusals.txt).
 #
 # Exit status: 0 every line was accepted; 1 a line was refused; 2 the input can't be read, the proof failed, or the output was cut. That it was
@@ -16,7 +16,8 @@
 set -u
 name=${0##*/}
 root=$(cd "$(dirname "${BASH_SOURCE[0]}")/.." && pwd) || exit 2
-log=target/listing.log
+log=crates/listing/out/listing.log
+program=crates/listing/out/listing
 
 say() { printf '%s: %s\n' "$name" "$*" >&2; }
 fail() {
@@ -91,30 +92,37 @@ crates_needed() {
         END { visit("listing"); print count + 0 }' crates.txt
 }
 
-# Keeps what the prover says in the log and counts the crates, at a terminal as they come.
+# Keeps what the prover says in the log and counts the crates that it proves now, at a terminal as they come. Gives their number.
 count_crates() { # NEEDED
     local proved=0 line
     while IFS= read -r line; do
         { printf '%s\n' "$line" >&3; } 2>/dev/null || return 1
-        if [[ $line =~ ^rt:\ [A-Za-z0-9_]+\ proved\ \( ]]; then proved=$((proved + 1)); fi
+        if [[ $line =~ ^logic=proved\  ]]; then proved=$((proved + 1)); fi
         if [ -t 2 ]; then printf '\r%s: %s of %s crates proved' "$name" "$proved" "$1" >&2; fi
     done
-    if [ -t 2 ]; then printf '\n' >&2; else say "$proved of $1 crates proved"; fi
-    return 0
+    echo "$proved"
 }
 
+# Proves and builds the listing. `rt run` runs it too, here on no lines, which gives no output.
 prove() {
     command -v rt >/dev/null || fail "rt, the Rattle kit's command, is not on the path"
-    { mkdir -p target && : >"$log"; } 2>/dev/null || fail "$root/$log can't be written"
-    rt check listing 2>&1 </dev/null | count_crates "$(crates_needed)" 3>"$log"
-    local statuses=("${PIPESTATUS[@]}")
+    { mkdir -p "${log%/*}" && : >"$log"; } 2>/dev/null || fail "$root/$log can't be written"
+    local needed statuses
+    needed=$(crates_needed)
+    (cd crates/listing && exec rt run) 2>&1 </dev/null | count_crates "$needed" 3>"$log" >"$work/proved"
+    statuses=("${PIPESTATUS[@]}")
+    if [ -t 2 ]; then printf '\r' >&2; fi
     [ "${statuses[1]}" -eq 0 ] || fail "$root/$log can't be written"
-    [ "${statuses[0]}" -eq 0 ] || fail "the listing is not proved: $root/$log has what the prover said"
-    [ -x target/bin/listing ] || fail "the prover made no target/bin/listing: $root/$log has what it said"
+    if [ "${statuses[0]}" -ne 0 ]; then
+        say "$(cat "$work/proved") of $needed crates proved now"
+        fail "the listing is not proved: $root/$log has what the prover said"
+    fi
+    [ -x "$program" ] || fail "the prover made no $program: $root/$log has what it said"
+    say "$needed of $needed crates proved"
 }
 
 list() {
-    target/bin/listing <"$work/input" | tee "$work/output" 2>/dev/null
+    "$program" <"$work/input" | tee "$work/output" 2>/dev/null
     local statuses=("${PIPESTATUS[@]}")
     [ "${statuses[1]}" -eq 0 ] || fail "the output is cut: it can't be written whole"
     [ "${statuses[0]}" -eq 0 ] || fail "the output is cut: the listing ended with status ${statuses[0]}"

@@ -35,16 +35,19 @@ def needed(crate):
 CRATES = len(needed("listing"))
 WAIT = 60  # seconds: a test that takes longer has failed
 
-# What the `rt` of a test does: it notes that it was called, says what a test wants and makes a listing.
+# What the `rt` of a test does: it notes where and how it was called, says what a test wants and makes a listing.
 RT = """#!/bin/sh
-echo "$*" >>called
-cat says
-mkdir -p target/bin
-[ ! -f listing ] || cp listing target/bin/listing
+crate=${PWD##*/}
+cd ../..
+echo "$crate: $*" >>called
+cat says >&2
+mkdir -p crates/listing/out
+[ ! -f listing ] || cp listing crates/listing/out/listing
 exit "$(cat status)"
 """
-PROVED = "".join(f"rt: crate_{n} proved ({n} s)\n" for n in range(1, CRATES)) + "rt: listing proved (unchanged since it was last proved)\n"
-OK = f"some words of the prover\n{PROVED}rt: ok, {CRATES} crates proved\n"
+PROVED = "".join(f"crate crate_{n}: modules loaded=0 checked={n}\nlogic=proved functions={n}\n" for n in range(1, CRATES + 1))
+OK = f"some words of the prover\n{PROVED}rt: running out/listing\n"
+UNCHANGED = "rt: nothing has changed since the last proved build\nrt: running out/listing\n"
 COUNTED = f"listing.sh: {CRATES} of {CRATES} crates proved\n"
 
 
@@ -67,6 +70,7 @@ class Tree:
             (self.root / name).parent.mkdir(exist_ok=True)
             shutil.copy(REPOSITORY / name, self.root / name)
         (self.root / "path").mkdir()
+        (self.root / "crates" / "listing").mkdir(parents=True)
         self.program("path/rt", RT)
         (self.root / "says").write_text(says)
         (self.root / "status").write_text(str(status))
@@ -129,9 +133,10 @@ def right_tests(tree):
     one = tree(EXAMPLE_LISTED)
     (one.root / "lines.txt").write_bytes(EXAMPLE)
     test("a file", one.run("lines.txt"), whole)
-    test("what rt was called with", one.called(), "check listing\n")
+    test("what rt was called with", one.called(), "listing: run\n")
     test("what the listing was given", (one.root / "given").read_bytes(), EXAMPLE)
-    test("the log", (one.root / "target" / "listing.log").read_text(), OK)
+    test("the log", (one.root / "crates" / "listing" / "out" / "listing.log").read_text(), OK)
+    test("nothing has changed", tree(EXAMPLE_LISTED, says=UNCHANGED).run(stdin=None, input=EXAMPLE), whole)
     test("a file by its whole path", one.run(one.root / "lines.txt"), whole)
     test("- for standard input", one.run("-", stdin=None, input=EXAMPLE), whole)
     test("standard input", one.run(stdin=None, input=EXAMPLE), whole)
@@ -234,18 +239,18 @@ def without_rt(tree):
 
 def proof_tests(tree):
     """A proof that fails, and what stands in its way."""
-    failing = PROVED.splitlines(True)[:3] + ["rt: listing NOT PROVED (exit 1, 2 s)\n", "rt: FAILED: listing\n"]
+    failing = PROVED.splitlines(True)[:6] + ["crate listing: modules loaded=0 checked=2\n", "logic=not-proved functions=1\n"]
     for status in (1, 2, 3):
         done = tree(EXAMPLE_LISTED, says="".join(failing), status=status).run(stdin=None, input=EXAMPLE)
-        said = f"listing.sh: 3 of {CRATES} crates proved\nlisting.sh: the listing is not proved: ROOT/target/listing.log has what the prover said\n"
+        log = "ROOT/crates/listing/out/listing.log"
+        said = f"listing.sh: 3 of {CRATES} crates proved now\nlisting.sh: the listing is not proved: {log} has what the prover said\n"
         test(f"a proof that fails with {status}", done, (2, b"", said))
-    ran = "rt: listing proved, and its run FAILED (0 s)\n"
-    test("a run that fails is no proof", tree(says=ran, status=1).run()[2].startswith(f"listing.sh: 0 of {CRATES} crates proved\n"), True)
+    test("a run that fails", tree(says=UNCHANGED, status=1).run()[2].startswith(f"listing.sh: 0 of {CRATES} crates proved now\n"), True)
     done = tree(does=None).run()
-    test("no program", (done[0], done[1], "the prover made no target/bin/listing" in done[2]), (2, b"", True))
+    test("no program", (done[0], done[1], "the prover made no crates/listing/out/listing" in done[2]), (2, b"", True))
     one = tree(EXAMPLE_LISTED)
-    (one.root / "target").write_text("")
-    sentence(one.run(stdin=None, input=EXAMPLE), "target is a file")
+    (one.root / "crates" / "listing" / "out").write_text("")
+    sentence(one.run(stdin=None, input=EXAMPLE), "out is a file")
     one = tree(EXAMPLE_LISTED)
     os.environ["TMPDIR"] = str(one.root / "missing")
     sentence(one.run(stdin=None, input=EXAMPLE), "no folder for a copy")

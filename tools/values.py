@@ -38,7 +38,6 @@ from btor2_values import ARRAY, COUNTER, COUNTER_MAX, FLAG, MEMORY, WORD, WORDS,
 from refusal import BRANCHES, KINDS, LOADS, REGISTERS, STORES, UPPER, Listing, refusal
 from riscv_manual import MANUAL, TAKEN, accessed, loaded, signed
 
-HERE = pathlib.Path(__file__).resolve().parent
 SHOWN = 10  # differences
 
 #

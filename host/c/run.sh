@@ -1,15 +1,15 @@
 #!/bin/sh
-# run.sh [LIBRARY]: builds header_test.c against LIBRARY (default: target/staticlib/libhost.a of the repository, which `rt staticlib host`
-# writes), once as C and once as C++, guard_test.c with guard_join.c and guard_evaluate.c, and stack_test.c, and runs them. Ends with status 0
+# run.sh [LIBRARY]: builds header_test.c against LIBRARY (default: crates/host/out/libhost.a, which `rt lib` in crates/host writes),
+# once as C and once as C++, guard_test.c with guard_join.c and guard_evaluate.c, and stack_test.c, and runs them. Ends with status 0
 # where all end well.
 set -eu
 
 here=$(cd "$(dirname "$0")" && pwd)
-library=${1:-$here/../../target/staticlib/libhost.a}
+library=${1:-$here/../../crates/host/out/libhost.a}
 out=$here/target
 
 if [ ! -f "$library" ]; then
-    echo "run.sh: $library is missing: 'rt staticlib host' writes it" >&2
+    echo "run.sh: $library is missing: 'rt lib' in crates/host writes it" >&2
     exit 2
 fi
 mkdir -p "$out"

@@ -98,7 +98,7 @@ pub extern "C" fn lanthanumbat_join(
     used: &mut usize,
     flow: &mut usize,
 ) -> u64
-    ensures { given_join result flow.new used.new (join_lent list.new names.new sequentials.new) state.new ≡ joining_words (join_lent list.old names.old sequentials.old) state.old used.old (join_input edges.entry.now dispatches.now flags.now dynamics.now (record { edges = count; dispatches = dispatched; flags = flagged; mode = record { 0 = mode }; none = record { 0 = none }; flow = record { 0 = flow.old } })) }
+    ensures { given_join result flow.new used.new (join_lent list.new names.new sequentials.new) state.new ≡ joining_words (join_lent list.old names.old sequentials.old) state.old used.old (join_input edges.now dispatches.now flags.now dynamics.now (record { edges = count; dispatches = dispatched; flags = flagged; mode = record { 0 = mode }; none = record { 0 = none }; flow = record { 0 = flow.old } })) }
 {
     let a = Asked {
         edges: count,

@@ -8,7 +8,7 @@ ghost use Rattle.listing_text.specs.Remarks.{edges_text, dispatches_text};
 ghost use Rattle.lowering.specs.Lowering.{Lent, lent, answer, lowering};
 ghost use Rattle.text.specs.Put.{Put};
 ghost use Rattle.listing_bytes.specs.Step.{answer_text};
-ghost use Rattle.listing_bytes.specs.Step.{emptied as Step·emptied, step as Step-step};
+ghost use Rattle.listing_bytes.specs.Step.{emptied as Step·emptied, step as Step·step};
 
 use btor2::NodeRef;
 use listing_input::{Parsed, parse};
@@ -35,9 +35,9 @@ pub fn step(
     number: u64,
     line: &[u8],
 ) -> Stepped
-    ensures state { result.state ≡ (Step-step number line.now (lent list.old names.old edges.old dispatches.old bads.old) state).state }
-    ensures lists { lent list.new names.new edges.new dispatches.new bads.new ≡ (Step-step number line.now (lent list.old names.old edges.old dispatches.old bads.old) state).lent }
-    ensures text { Put out.old 0 (Step-step number line.now (lent list.old names.old edges.old dispatches.old bads.old) state).text out.new result.length }
+    ensures state { result.state ≡ (Step·step number line.now (lent list.old names.old edges.old dispatches.old bads.old) state).state }
+    ensures lists { lent list.new names.new edges.new dispatches.new bads.new ≡ (Step·step number line.now (lent list.old names.old edges.old dispatches.old bads.old) state).lent }
+    ensures text { Put out.old 0 (Step·step number line.now (lent list.old names.old edges.old dispatches.old bads.old) state).text out.new result.length }
 {
     let ready = emptied(state);
     match parse(line) {

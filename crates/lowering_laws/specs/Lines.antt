@@ -11,5 +11,5 @@ taking (o ∷ os) = identifiers o + taking os
 
 -- lines under identifiers that go up by what each takes, all with the address of one instruction or without one
 unfoldable pub numbered : MaybeAddress → ℕ → List (Op ℕ) → List Node
-numbered address nid [] = []
-numbered address nid (o ∷ os) = node address nid o ∷ numbered address (nid + identifiers o) os
+numbered whose nid [] = []
+numbered whose nid (o ∷ os) = node whose nid o ∷ numbered whose (nid + identifiers o) os

@@ -1,11 +1,8 @@
 -- One piece after the other. Assumes nothing.
-use Rattle.text.proofs.Laws.{then, put_length}
+use Rattle.text.proofs.Laws.{then}
 use Rattle.listing_step.proofs.put_appended.Goals as goal
 
 pub returns : goal.returns
 returns c =
     let h = c.well_formed.0.0 in
     then h (then h c.put_lines-p.ensures c.put_edges-q.ensures) c.put_dispatches.ensures
-
-pub shape_of-out : goal.shape_of-out
-shape_of-out c = put_length (returns c)
