@@ -33,8 +33,8 @@ FOREIGN = {
     ),
     "Rust": ("FnOnce", "Rc::ptr_eq", "format!", "match"),
     "Rattle and its library": (
-        "cond t a b", "elim t [ true ↦ a | false ↦ b ]", "eqb", "leb", "ltb", "pub(crate)", "rattle-kit-13f logic dac8208d650f15bf",
-        "requires", "result", "slice_index_or l p d", "x.new", "x.now", "x.old",
+        "==", "cond t a b", "elim t [ true ↦ a | false ↦ b ]", "eqb", "leb", "ltb", "nat_le", "nat_lt", "pub(crate)",
+        "rattle-kit-13f logic dac8208d650f15bf", "requires", "result", "slice_index_or l p d", "x.new", "x.now", "x.old",
     ),
     "shell, and what tools say": (
         "GLIBC_TUNABLES=glibc.malloc.hugetlb=1", "axioms=4", "libraries-built=trusted", "logic-built=trusted", "native=nat,char,string",

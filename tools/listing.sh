@@ -6,8 +6,8 @@
 # listed (samples/firmware.txt).
 #
 # The lines are read, and looked at, before anything is proved. What the prover says goes to crates/listing/out/listing.log; a line on standard
-# error counts the crates that are proved, those that have not changed since among them. The listing goes to standard output, and at the end standard error has the number of lines that were refused, with the
-# meaning of each number (tools/refusals.txt).
+# error counts the crates that are proved, those that have not changed since among them. The listing goes to standard output, and at the end
+# standard error has the number of lines that were refused, with the meaning of each number (tools/refusals.txt).
 #
 # Exit status: 0 every line was accepted; 1 a line was refused; 2 the input can't be read, the proof failed, or the output was cut. That it was
 # cut is seen in two ways. The listing writes into a pipe whose reader's exit status says whether all that it read was written, to standard
@@ -122,10 +122,10 @@ prove() {
 }
 
 list() {
-    "$program" <"$work/input" | tee "$work/output" 2>/dev/null
+    "$program" <"$work/input" 2>"$work/said" | tee "$work/output" 2>/dev/null
     local statuses=("${PIPESTATUS[@]}")
     [ "${statuses[1]}" -eq 0 ] || fail "the output is cut: it can't be written whole"
-    [ "${statuses[0]}" -eq 0 ] || fail "the output is cut: the listing ended with status ${statuses[0]}"
+    [ "${statuses[0]}" -eq 0 ] || fail "the output is cut: the listing ended with status ${statuses[0]}$(sed '1s/^/: /;q' "$work/said")"
     if [ -s "$work/output" ] && [ "$(tail -c 1 "$work/output" | wc -l)" -eq 0 ]; then
         fail "the output is cut: its last line has no end"
     fi

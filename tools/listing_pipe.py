@@ -2,7 +2,8 @@
 """listing_pipe.py [LISTING]: what the listing writes where a write fails is the beginning of what it should write.
 
 Its output is a pipe of 4,096 bytes that does not block and that nobody reads while it runs, so a text that does not fit fails, and a shorter
-one after it would fit. The program must stop at the first that fails, and must not take an unfinished last line after it.
+one after it would fit. The program must stop at the first that fails, must not take an unfinished last line after it, and must end with status 1;
+with 0 where all was written.
 """
 import fcntl
 import os
@@ -27,11 +28,11 @@ def inputs():
 def into_full_pipe(listing, given):
     out, into = os.pipe2(os.O_NONBLOCK)
     fcntl.fcntl(into, fcntl.F_SETPIPE_SZ, PIPE)
-    subprocess.run([listing], input=given, stdout=into, check=True, timeout=60)
+    status = subprocess.run([listing], input=given, stdout=into, stderr=subprocess.DEVNULL, timeout=60).returncode
     os.close(into)
     got = os.read(out, 2 * PIPE)
     os.close(out)
-    return got
+    return got, status
 
 
 def main():
@@ -39,14 +40,14 @@ def main():
     whole = cut = faulty = 0
     for given in inputs():
         wanted = subprocess.run([listing], input=given, stdout=subprocess.PIPE, check=True).stdout
-        got = into_full_pipe(listing, given)
-        if not wanted.startswith(got):
+        got, status = into_full_pipe(listing, given)
+        if not wanted.startswith(got) or status != (got != wanted):
             faulty += 1
         elif got == wanted:
             whole += 1
         else:
             cut += 1
-    print(f"{whole} whole, {cut} cut short, {faulty} with a part missing")
+    print(f"{whole} whole, {cut} cut short, {faulty} with a part missing or another status")
     sys.exit(0 if whole and cut and not faulty else 1)
 
 

@@ -183,6 +183,7 @@ def wrong_tests(tree):
         ("a line cut in two", listed[:-3], "", "its last line has no end"),
         ("an exit status", listed, "exit 3", "the listing ended with status 3"),
         ("a signal", listed, "kill -9 $$", "the listing ended with status 137"),
+        ("an error", listed, "echo no more >&2; exit 1", "the listing ended with status 1: no more"),
     ):
         status, out, heard = tree(output, does).run(stdin=None, input=lines)
         test(f"cut: {name}", (status, out), (2, output))
