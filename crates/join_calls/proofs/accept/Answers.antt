@@ -4,7 +4,7 @@ use Rattle.join_calls.proofs.Settled.{settles}
 use Rattle.join_calls.proofs.accept.Goals as goal
 
 pub join_edges-joined-requires : goal.join_edges-joined-requires
-join_edges-joined-requires c = 
+join_edges-joined-requires c =
     let p = c.requires in
     rw c.begin-begun.ensures (p.edges, p.flags, p.room)
 
@@ -12,7 +12,7 @@ pub join_dispatches-made-requires : goal.join_dispatches-made-requires
 join_dispatches-made-requires c = c.requires.dispatches
 
 pub returns : goal.returns
-returns c = 
+returns c =
     let a = c.args in
     rw c.held_after-held.ensures
     (settles (join_lent a.list.now a.names.now a.sequentials.now) a.h (join_input a.edges.now a.dispatches.now a.flags.now a.dynamics.now a.a)

@@ -12,7 +12,7 @@ unfolding joining_words
 returns-then-state-lt-STATE_WORDS c = rw (lt-ltb _ state_words c.if-state-lt-STATE_WORDS.true)
 
 pub returns : goal.returns
-returns c = 
+returns c =
     let a = c.args in
     rw c.put_held.ensures
     (words_put (join_lent a.list.now a.names.now a.sequentials.now) _ a.state.now a.used (join_input a.edges.now a.dispatches.now a.flags.now a.dynamics.now a.a) _ _ c.join-joined.result.held

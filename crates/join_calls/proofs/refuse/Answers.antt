@@ -127,8 +127,8 @@ returns-then-room_exceeded c ours places e f =
     let w : JoinWithin l a.h g = within l a.h g n9 in
     let z : zero_in a.h.state < a.h.state.tally.lines = zero_below a.list.now a.h.state.tally.lines a.h.state.roles (omega (arith, c.zero_bit-zero.ensures.size)) (not-false _ (sym c.roles_out.ensures ∙ c.if-roles_out.false)) in
     let is8 : join_room_out l a.h g ≡ c.room_exceeded.result =
-        sym (exceeds_room l a.h g z w.most w.held w.names w.sequentials)
-        ∙ rw (e, f) (sym (rw (c.room_left-left.ensures, c.zero_bit-zero.ensures.is) at c.room_exceeded.ensures))
+    sym (exceeds_room l a.h g z w.most w.held w.names w.sequentials)
+    ∙ rw (e, f) (sym (rw (c.room_left-left.ensures, c.zero_bit-zero.ensures.is) at c.room_exceeded.ensures))
     in
     is_8 l a.h g n9 n13 n15 n16 (is8 ∙ c.if-room_exceeded.true)
 
@@ -147,7 +147,7 @@ returns c ours places e f =
     let w : JoinWithin l a.h g = within l a.h g n9 in
     let z : zero_in a.h.state < a.h.state.tally.lines = zero_below a.list.now a.h.state.tally.lines a.h.state.roles (omega (arith, c.zero_bit-zero.ensures.size)) (not-false _ (sym c.roles_out.ensures ∙ c.if-roles_out.false)) in
     let is8 : join_room_out l a.h g ≡ c.room_exceeded.result =
-        sym (exceeds_room l a.h g z w.most w.held w.names w.sequentials)
-        ∙ rw (e, f) (sym (rw (c.room_left-left.ensures, c.zero_bit-zero.ensures.is) at c.room_exceeded.ensures))
+    sym (exceeds_room l a.h g z w.most w.held w.names w.sequentials)
+    ∙ rw (e, f) (sym (rw (c.room_left-left.ensures, c.zero_bit-zero.ensures.is) at c.room_exceeded.ensures))
     in
     is_0 l a.h g n9 n13 n15 n16 (is8 ∙ c.if-room_exceeded.false)

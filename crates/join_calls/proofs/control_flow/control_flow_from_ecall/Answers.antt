@@ -6,7 +6,7 @@ use Rattle.join_calls.proofs.control_flow.control_flow_from_ecall.Goals as goal
 
 pub returns : goal.returns
 unfolding control_flow_from_ecall
-returns c = 
+returns c =
     rw c.put_place.ensures
     (on _ (lists (quiet_line refl) c.new_state-s.ensures)
     (on _ (lists (quiet_line refl) c.new_ite-i.ensures)

@@ -15,6 +15,6 @@ pub returns-then-at-ge-DYNAMICS : goal.returns-then-at-ge-DYNAMICS
 returns-then-at-ge-DYNAMICS c = rw (ne_eqb _ _ c.if-register-eq0.false) (sym (get_or-eq_default c.args.dynamics.now no_flag (omega arith)))
 
 pub returns : goal.returns
-returns c = 
+returns c =
     let a = c.args in
     rw (ne_eqb _ _ c.if-register-eq0.false) (get_or_within a.dynamics.now (a.register - 1) 0 no_flag (omega arith))

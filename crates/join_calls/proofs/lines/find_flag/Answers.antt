@@ -13,7 +13,7 @@ pub loop-i-init : goal.loop-i-init
 loop-i-init c = let n = c.args.count in let all : n - 0 ≡ n = omega arith in (omega arith, rw all)
 
 pub returns-then-flags-i : goal.returns-then-flags-i
-returns-then-flags-i c = 
+returns-then-flags-i c =
     let a = c.args in
     let ws = a.flags.now in
     let i = c.loop-i.i in
@@ -22,7 +22,7 @@ returns-then-flags-i c =
     (ap (λ (q : ℕ). eqb q a.address) (first_word (i * flag_stride) ws) ∙ eq-eqb _ _ c.if-flags-i.true)
 
 pub loop-i-preserved : goal.loop-i-preserved
-loop-i-preserved c = 
+loop-i-preserved c =
     let a = c.args in
     let ws = a.flags.now in
     let i = c.loop-i.i in (
@@ -32,6 +32,6 @@ loop-i-preserved c =
     )
 
 pub returns : goal.returns
-returns c = 
+returns c =
     let a = c.args in
     ended no_flag flag_stride flag_in (for_address a.address) (λ (x : Flag). x.place) a.count c.loop-i.i a.flags.now c.loop-i.invariant.1 (omega arith)

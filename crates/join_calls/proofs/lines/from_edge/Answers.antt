@@ -8,7 +8,7 @@ use Rattle.join_calls.proofs.lines.from_edge.Goals as goal
 
 pub returns-then-origin-eq-BRANCH : goal.returns-then-origin-eq-BRANCH
 unfolding from_edge
-returns-then-origin-eq-BRANCH c = 
+returns-then-origin-eq-BRANCH c =
     rw c.if-origin-eq-BRANCH.true (record {
       lists = lists (quiet_branch _ _ _ _) c.control_flow_from_branch-m.ensures;
       texts = refl;
@@ -25,7 +25,7 @@ returns-then-origin-eq-SYSCALL c = rw c.if-origin-eq-SYSCALL.true c.from_syscall
 
 pub returns : goal.returns
 unfolding from_edge
-returns c = 
+returns c =
     rw (ne_eqb _ _ c.if-origin-eq-BRANCH.false, ne_eqb _ _ c.if-origin-eq-SYSCALL.false) (record {
       lists = lists (quiet_regular _ _ _) c.control_flow_from_regular-m.ensures;
       texts = refl;

@@ -7,7 +7,7 @@ use Rattle.builder.proofs.Gives.{kept}
 use Rattle.join_calls.proofs.lines.join_dispatch.Goals as goal
 
 pub returns : goal.returns
-returns c = 
+returns c =
     let ws = c.args.dispatches.now in
     let b = c.args.done * 2 in
     let here : b + 0 ≡ b = omega arith in

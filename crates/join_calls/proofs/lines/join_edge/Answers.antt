@@ -9,7 +9,7 @@ from_edge-requires c = rw (get_or-drop (c.args.done * 4) c.args.edges.now 2 0, g
 
 pub returns : goal.returns
 unfolding from_edge
-returns c = 
+returns c =
     let ws = c.args.edges.now in
     let b = c.args.done * 4 in
     rw (get_or-drop b ws 1 0, get_or-drop b ws 2 0, get_or-drop b ws 3 0) (rw c.find_flag-flag.ensures at c.from_edge.ensures)

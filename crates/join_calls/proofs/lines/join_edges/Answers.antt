@@ -11,13 +11,13 @@ use Rattle.join_calls.proofs.Going.{begins, one_of, goes, ends}
 use Rattle.join_calls.proofs.lines.join_edges.Goals as goal
 
 pub loop-done-init : goal.loop-done-init
-loop-done-init c = 
+loop-done-init c =
     let a = c.args in
     let all : a.number - 0 ≡ a.number = omega arith in
     ((refl, refl, refl), omega arith, rw all (begins _ _ _ _ _ _ _ _))
 
 pub join_edge-at-requires : goal.join_edge-at-requires
-join_edge-at-requires c = 
+join_edge-at-requires c =
     let a = c.args in
     let done = c.loop-done.done in (
       omega arith,
@@ -26,7 +26,7 @@ join_edge-at-requires c =
     )
 
 pub loop-done-preserved : goal.loop-done-preserved
-loop-done-preserved c = 
+loop-done-preserved c =
     let a = c.args in
     let done = c.loop-done.done in (
       (search rules, search rules, search rules),
@@ -35,6 +35,6 @@ loop-done-preserved c =
     )
 
 pub returns : goal.returns
-returns c = 
+returns c =
     let a = c.args in
     ends _ _ _ (rw (records_none edge_stride edge_in a.number c.loop-done.done (drop (c.loop-done.done * 4) a.edges.now) (omega arith)) at c.loop-done.invariant.2)

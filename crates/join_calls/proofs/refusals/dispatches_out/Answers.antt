@@ -14,16 +14,16 @@ pub loop-i-init : goal.loop-i-init
 loop-i-init c = let n = c.args.number in let all : n - 0 ≡ n = omega arith in (omega arith, rw all)
 
 pub returns-then-dispatch_out : goal.returns-then-dispatch_out
-returns-then-dispatch_out c = 
+returns-then-dispatch_out c =
     let a = c.args in
     found dispatch_stride dispatch_in (dispatch_out a.list.now a.lines) a.number c.loop-i.i a.dispatches.now c.loop-i.invariant.1 (omega arith) (rw (get_or-drop (c.loop-i.i * 2) a.dispatches.now 0 0, add-zero, get_or-drop (c.loop-i.i * 2) a.dispatches.now 1 0) c.dispatch_out.ensures) c.if-dispatch_out.true
 
 pub loop-i-preserved : goal.loop-i-preserved
-loop-i-preserved c = 
+loop-i-preserved c =
     let a = c.args in
     (omega arith, passed dispatch_stride dispatch_in (dispatch_out a.list.now a.lines) a.number c.loop-i.i a.dispatches.now c.loop-i.invariant.1 (omega arith) (rw (get_or-drop (c.loop-i.i * 2) a.dispatches.now 0 0, add-zero, get_or-drop (c.loop-i.i * 2) a.dispatches.now 1 0) c.dispatch_out.ensures) c.if-dispatch_out.false)
 
 pub returns : goal.returns
-returns c = 
+returns c =
     let a = c.args in
     ended dispatch_stride dispatch_in (dispatch_out a.list.now a.lines) a.number c.loop-i.i a.dispatches.now c.loop-i.invariant.1 (omega arith)

@@ -19,16 +19,16 @@ pub loop-i-init : goal.loop-i-init
 loop-i-init c = (omega arith, refl)
 
 pub returns-then-bit_out : goal.returns-then-bit_out
-returns-then-bit_out c = 
+returns-then-bit_out c =
     let a = c.args in
     found 1 first (bit_out a.list.now a.lines) dynamic_count c.loop-i.i a.dynamics.now c.loop-i.invariant.1 (omega arith) (rw (first_is a.dynamics.now c.loop-i.i (omega arith)) c.bit_out.ensures) c.if-bit_out.true
 
 pub loop-i-preserved : goal.loop-i-preserved
-loop-i-preserved c = 
+loop-i-preserved c =
     let a = c.args in
     (omega arith, passed 1 first (bit_out a.list.now a.lines) dynamic_count c.loop-i.i a.dynamics.now c.loop-i.invariant.1 (omega arith) (rw (first_is a.dynamics.now c.loop-i.i (omega arith)) c.bit_out.ensures) c.if-bit_out.false)
 
 pub returns : goal.returns
-returns c = 
+returns c =
     let a = c.args in
     ended 1 first (bit_out a.list.now a.lines) dynamic_count c.loop-i.i a.dynamics.now c.loop-i.invariant.1 (omega arith)

@@ -13,16 +13,16 @@ pub loop-i-init : goal.loop-i-init
 loop-i-init c = let n = c.args.number in let all : n - 0 ≡ n = omega arith in (omega arith, rw all)
 
 pub returns-then-edge_out : goal.returns-then-edge_out
-returns-then-edge_out c = 
+returns-then-edge_out c =
     let a = c.args in
     found edge_stride edge_in (edge_out a.list.now a.lines) a.number c.loop-i.i a.edges.now c.loop-i.invariant.1 (omega arith) (rw (get_or-drop (c.loop-i.i * 4) a.edges.now 2 0, get_or-drop (c.loop-i.i * 4) a.edges.now 3 0) c.edge_out.ensures) c.if-edge_out.true
 
 pub loop-i-preserved : goal.loop-i-preserved
-loop-i-preserved c = 
+loop-i-preserved c =
     let a = c.args in
     (omega arith, passed edge_stride edge_in (edge_out a.list.now a.lines) a.number c.loop-i.i a.edges.now c.loop-i.invariant.1 (omega arith) (rw (get_or-drop (c.loop-i.i * 4) a.edges.now 2 0, get_or-drop (c.loop-i.i * 4) a.edges.now 3 0) c.edge_out.ensures) c.if-edge_out.false)
 
 pub returns : goal.returns
-returns c = 
+returns c =
     let a = c.args in
     ended edge_stride edge_in (edge_out a.list.now a.lines) a.number c.loop-i.i a.edges.now c.loop-i.invariant.1 (omega arith)

@@ -13,7 +13,7 @@ pub loop-i-init : goal.loop-i-init
 loop-i-init c = let n = c.args.number in let all : n - 0 ≡ n = omega arith in (omega arith, rw all)
 
 pub returns-then-edge_exceeds : goal.returns-then-edge_exceeds
-returns-then-edge_exceeds c = 
+returns-then-edge_exceeds c =
     let a = c.args in
     rw (sym c.edge_exceeds.ensures ∙ c.if-edge_exceeds.true) at (sym (exceeding_on _ _ a.number c.loop-i.i a.edges.now _ (omega arith)) ∙ c.loop-i.invariant.1)
 
@@ -21,7 +21,7 @@ pub left_after-left-requires : goal.left_after-left-requires
 left_after-left-requires c = sym c.edge_exceeds.ensures ∙ c.if-edge_exceeds.false
 
 pub loop-i-preserved : goal.loop-i-preserved
-loop-i-preserved c = 
+loop-i-preserved c =
     let a = c.args in (
       omega arith,
       rw (c.left_after-left.ensures, c.find_flag-flag.ensures)
@@ -29,7 +29,7 @@ loop-i-preserved c =
     )
 
 pub returns : goal.returns
-returns c = 
+returns c =
     let a = c.args in
     rw c.dispatch_lines.ensures
     (sym (exceeding_none _ _ _)
