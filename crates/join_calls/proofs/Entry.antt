@@ -1,7 +1,7 @@
 -- What the tests of a join's entry tell. Assumes nothing.
 use Prim.Native.Nat.{ℕ, ◌+◌, ◌≤◌, ◌<◌, ◌^◌}
 use mathlib.Core.Path.{◌≡◌, refl, sym, ap, ◌∙◌}
-use mathlib.Core.Bool.{Bool, true, false, cond, not, ◌&&◌, ◌||◌}
+use mathlib.Core.Bool.{Bool, true, false, cond, ◌&&◌}
 use mathlib.Core.List.{List, [], ◌∷◌}
 use native.Mathlib.Omega.{arith}
 use borrow.Author.Tests.{le-ltb, ltb-true, ltb-false, eqb-true}
@@ -10,17 +10,15 @@ use lib.ListN.{length}
 use Rattle.bitvec.proofs.Truth.{neither}
 use Rattle.btor2.specs.declared.NodeRef.{NodeRef}
 use Rattle.btor2_list.specs.Record.{holds, capacity}
-use Rattle.btor2_list.specs.Node.{node_of}
 use Rattle.btor2_list.specs.declared.Looked.{Looked}
 use Rattle.btor2_list.specs.Look.{outside}
-use Rattle.btor2_list.specs.Look.{look_at}
 use Rattle.state.specs.Roles.{role, zero_bit}
 use Rattle.state.specs.RolesFit.{value_sort, roles_fit}
 use Rattle.btor2_list.specs.Limits.{most_lines}
 use Rattle.state.specs.Words.{state_words, roles_in, state_of, state_in, with_state, counts_stored}
 use Rattle.join.specs.declared.JoinHeld.{JoinHeld}
 use Rattle.join.specs.Program.{names_of, nexts_of}
-use Rattle.join.specs.Refusal.{JoinLent, join_lent, JoinInput, edges_of, zero_in, join_counts_out, join_line_count, join_room_out}
+use Rattle.join.specs.Refusal.{JoinLent, join_lent, JoinInput, edges_of, join_counts_out, join_line_count, join_room_out}
 use Rattle.join.specs.Join.{JoinAnswer, join_answer, joining}
 use Rattle.join.specs.Words.{given_join, join_by, joining_words}
 use Rattle.join.proofs.Laws.{roles_stay}

@@ -1,11 +1,11 @@
 -- The rest of a join's edges after what is done. Assumes nothing.
-use Prim.Native.Nat.{ℕ, ◌+◌, ◌<◌, ◌^◌}
-use mathlib.Core.Path.{◌≡◌, refl, sym, ap, ◌∙◌}
-use mathlib.Core.List.{List, [], ◌∷◌, ◌++◌}
+use Prim.Native.Nat.{ℕ, ◌+◌}
+use mathlib.Core.Path.{◌≡◌, refl, ap, ◌∙◌}
+use mathlib.Core.List.{List, [], ◌∷◌}
 use native.Mathlib.Omega.{arith}
 use lib.ListN.{length, length-append}
 use lib.Seq.{sets}
-use Rattle.builder.specs.Prog.{◌>>=◌, exec}
+use Rattle.builder.specs.Prog.{exec}
 use Rattle.builder.proofs.Exec.{chain}
 use Rattle.builder.specs.declared.Made.{Made}
 use Rattle.builder.specs.Append.{at, append}
@@ -15,7 +15,7 @@ use Rattle.join_calls.specs.declared.lines.Joining.{Joining}
 use Rattle.join.specs.ControlFlow.{Bits, Kernel, control_flow_from_jalr}
 use Rattle.join.specs.Program.{Edge, Dispatch, names_of, nexts_by, nexts_of, from_edge, join_edges, join_dispatches}
 use Rattle.join.specs.Program.{edge_name}
-use Rattle.join.specs.Listed.{append_listed, Lists}
+use Rattle.join.specs.Listed.{append_listed}
 use Rattle.join_calls.specs.Steps.{joining_store, Joins, RoomForEdges, RoomForEdge}
 use Rattle.join.proofs.Lists.{rest}
 

@@ -1,17 +1,14 @@
 -- An accepted join: its edges, then its dispatches, are its program. Assumes nothing.
 use Prim.Native.Nat.{ℕ}
-use mathlib.Core.Path.{◌≡◌, refl, sym, ap, ◌∙◌}
+use mathlib.Core.Path.{◌≡◌, ap}
 use mathlib.Core.List.{List, [], ◌∷◌}
-use lib.ListN.{length}
-use Rattle.btor2.specs.declared.NodeRef.{NodeRef}
-use Rattle.builder.specs.Prog.{◌>>=◌, Run, ran, exec}
+use Rattle.builder.specs.Prog.{Run, exec}
 use Rattle.builder.specs.declared.Made.{Made}
 use Rattle.builder.specs.Gives.{Gives}
 use Rattle.state.specs.Roles.{register_node}
 use Rattle.join.specs.ControlFlow.{Bits}
-use Rattle.join.specs.Listed.{Listed, append_listed, Lists}
+use Rattle.join.specs.Listed.{Listed, append_listed}
 use Rattle.join.proofs.Lists.{Quiet, none, on, lists, quiet_jalr, quiet_bind}
-use Rattle.join.specs.declared.Asked.{Asked}
 use Rattle.join.specs.declared.JoinHeld.{JoinHeld}
 use Rattle.join.specs.Program.{Dispatch, names_of, nexts_of, join_edges, join_dispatches, join_address}
 use Rattle.join.specs.Given.{dynamic_for}

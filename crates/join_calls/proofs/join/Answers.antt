@@ -2,7 +2,7 @@
 use mathlib.Core.Path.{◌≡◌, refl, sym, ◌∙◌}
 use borrow.Author.Rules.{rules}
 use borrow.Author.Tests.{eq-eqb}
-use Rattle.join.specs.Refusal.{JoinLent, join_lent, JoinInput, join_input, join_refusal}
+use Rattle.join.specs.Refusal.{join_lent, join_input, join_refusal}
 use Rattle.join.specs.Join.{joining}
 use Rattle.join.proofs.Laws.{refused_leaves}
 use Rattle.join.proofs.Numbers.{passed}

@@ -1,8 +1,8 @@
 -- The tests in the definition's order. Assumes nothing.
-use Rattle.std.proofs.Common.{ℕ, ◌<◌, ◌≡◌, sym, ◌∙◌, true, false, ◌||◌, List, length, arith}
+use Rattle.std.proofs.Common.{◌<◌, ◌≡◌, sym, ◌∙◌, false, ◌||◌, length, arith}
 use borrow.Author.Tests.{not-false}
 use lib.ListN.{replicate, length-replicate}
-use Rattle.join.specs.Refusal.{JoinLent, join_lent, JoinInput, join_input, join_counts_out, flags_out, join_room_out, zero_in}
+use Rattle.join.specs.Refusal.{join_lent, join_input, join_counts_out, flags_out, join_room_out, zero_in}
 use Rattle.join.proofs.Numbers.{roles_out, records_out, JoinWithin, within, is_9, is_13, is_15, is_16, is_8, is_0}
 use Rattle.join_calls.proofs.Entry.{counts_by, zero_below}
 use Rattle.join_calls.proofs.Grown.{exceeds_room}

@@ -1,5 +1,5 @@
 -- What is left of the dynamic flags gives what all do. The slice tells that the array is 31 long. Assumes nothing.
-use Prim.Native.Nat.{ℕ, ◌-◌, ◌*◌, ◌<◌}
+use Prim.Native.Nat.{ℕ, ◌*◌, ◌<◌}
 use mathlib.Core.Path.{◌≡◌, refl}
 use mathlib.Core.List.{List}
 use native.Mathlib.Nat.{add-zero, mul-one}
