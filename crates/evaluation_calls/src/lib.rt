@@ -224,7 +224,8 @@ fn cell(
     }
 }
 
-// Two words, one after the other.
+// Two words, one after the other. Within the function that compares two, so that a line that waits takes less of the stack.
+#[inline(always)]
 #[cycle(alike_bits_cell_eval_bit_eval_word_words)]
 fn words(list: &[u64], values: &[u64], memory: &[u64], a: NodeRef, b: NodeRef, visits: u64) -> Pair
     requires { Visitable word_sort list.now a.0 × Visitable word_sort list.now b.0 }
@@ -239,7 +240,8 @@ fn words(list: &[u64], values: &[u64], memory: &[u64], a: NodeRef, b: NodeRef, v
     }
 }
 
-// Two bits, one after the other.
+// Two bits, one after the other. Within the function that compares two, so that a line that waits takes less of the stack.
+#[inline(always)]
 #[cycle(alike_bits_cell_eval_bit_eval_word_words)]
 fn bits(list: &[u64], values: &[u64], memory: &[u64], a: NodeRef, b: NodeRef, visits: u64) -> Pair
     requires { Visitable (has_sort Bit) list.now a.0 × Visitable (has_sort Bit) list.now b.0 }
