@@ -1,19 +1,25 @@
--- Bytes taken one after the other: a line is gathered at once, and a turn takes what comes next of a piece. Assumes nothing.
-use Rattle.std.proofs.Common.{◌≡◌, ℕ, suc, ◌+◌, ◌-◌, ◌^◌, ◌<◌, ◌≤◌, min, Bool, true, false, cond, eqb, List, [], ◌∷◌, ◌++◌, length, take, drop, sym, refl, ap, ◌∙◌, ap₂, append-nil, arith, length-drop, length-set, take_all, take-add, ltb-false, ltb-true, eqb-true}
+-- Bytes taken one after the other: a line is gathered at once, a turn takes what comes next of a piece, and what is read piece by piece is written so. Assumes nothing.
+use Rattle.std.proofs.Common.{◌≡◌, ℕ, suc, ◌+◌, ◌-◌, ◌^◌, ◌<◌, ◌≤◌, min, Bool, true, false, cond, eqb, List, [], ◌∷◌, ◌++◌, length, take, drop, sym, refl, ap, ◌∙◌, ap₂, append-nil, subst, true≢false, length-append, arith, length-drop, length-set, take_all, take-add, ltb-false, ltb-true, eqb-true}
 use native.Mathlib.Nat.{min-eq_left}
+use Rattle.std.specs.Prelude.{Option, None, Some, IfSome}
+use Rattle.std.specs.Io.KnownBytes.{Appends, Consumes, IsAtEnd}
+use Rattle.std.proofs.KnownBytes.{Appends-nil, Appends-trans, Consumes-nil, Consumes-trans}
 use lib.Seq.{sets}
 use Rattle.bitvec.proofs.Base.{by_le}
 use Rattle.listing_input.specs.Gather.{line_bytes, line_ends, line_next}
 use Rattle.listing_input.specs.Text.{before}
+use Rattle.listing_start.specs.Start.{concat}
 use Rattle.lowering.specs.Lowering.{Lent}
 use Rattle.state.specs.declared.State.{State}
 use Rattle.text.specs.Put.{Put}
 use Rattle.text.proofs.Laws.{then, put_length}
+use Rattle.listing_bytes.specs.declared.Reading.{Reading}
 use Rattle.listing_bytes.specs.Storage.{out_room}
-use Rattle.listing_bytes.specs.Pieces.{Progress, progress, reading, Told, told, and_then, line_ended, byte_held, take_byte, take_bytes, input_ended}
+use Rattle.listing_bytes.specs.Pieces.{Progress, progress, reading, Told, told, and_then, line_ended, byte_held, take_byte, take_bytes, take_pieces, input_ended, start}
+use Rattle.listing_bytes.specs.Listing.{listing}
 use Rattle.listing_bytes.specs.Laws.{TextFits}
-use Rattle.listing_bytes.proofs.Whole.{two_pieces}
-use Rattle.listing_run.specs.Turn.{line_on, Reaches}
+use Rattle.listing_bytes.proofs.Whole.{two_pieces, any_pieces}
+use Rattle.listing_run.specs.Turn.{line_on, Reaches, IsReached, Lists}
 
 pub here : (p : Progress) → Reaches p p
 unfolding take_bytes
@@ -24,6 +30,69 @@ further {p} {q} {r} u v = record {
   input = u.input ++ v.input;
   is = v.is ∙ ap (λ (x : Progress). (take_bytes v.input x).progress) u.is ∙ sym (ap (λ (t : Told). t.progress) (two_pieces u.input v.input p));
 }
+
+-- the text of some bytes and then of more
+pub text_after : (s t : List ℕ) (p q : Progress) → q ≡ (take_bytes s p).progress → (take_bytes s p).text ++ (take_bytes t q).text ≡ (take_bytes (s ++ t) p).text
+text_after s t p q e =
+    ap (λ (x : Progress). (take_bytes s p).text ++ (take_bytes t x).text) e ∙ sym (ap (λ (u : Told). u.text) (two_pieces s t p))
+
+-- ---- what is read, and what is written
+
+-- nothing more came
+pub nothing : {unread unread' written : Option (List ℕ)} {p : Progress} {least : ℕ} (n : ℕ) (piece : List ℕ) → n ≡ 0 → Consumes unread unread' (take n piece) → IsAtEnd unread'
+    → Lists unread unread' written written p p false least
+unfolding take_bytes
+nothing {unread} {unread'} {written} n piece z r e = record { input = []; read = subst (λ (k : ℕ). Consumes unread unread' (take k piece)) z r; is = refl; wrote = Appends-nil written; ended = λ _. e; goes_on = λ f. absurd (true≢false (sym f)) }
+
+-- nothing has been read yet
+pub not_begun : {unread written : Option (List ℕ)} {p : Progress} → Lists unread unread written written p p true 0
+unfolding take_bytes
+not_begun {unread = unread} {written = written} = record { input = []; read = Consumes-nil unread; is = refl; wrote = Appends-nil written; ended = λ f. absurd (true≢false f); goes_on = λ _. omega arith }
+
+-- and then a piece more
+pub goes_on : {a b c x y z : Option (List ℕ)} {p q r : Progress} {more : Bool} {least : ℕ} → Lists a b x y p q true least → Lists b c y z q r more 1 → Lists a c x z p r more (least + 1)
+unfolding further
+goes_on {a} {b} {c} {x} {y} {z} {p} {q} {r} {more} {least} u v = record {
+  input = u.input ++ v.input;
+  read = Consumes-trans a b c u.input v.input u.read v.read;
+  is = (further (record { input = u.input; is = u.is }) (record { input = v.input; is = v.is })).is;
+  wrote = subst (Appends x z) (text_after u.input v.input p q u.is) (Appends-trans x y z _ _ u.wrote v.wrote);
+  ended = v.ended;
+  goes_on = λ e. let m = u.goes_on refl in let n = v.goes_on e in omega (arith, length-append u.input v.input);
+}
+
+-- a whole input, and what is written where it has ended
+module _ (input : List ℕ) (short : length input < 2 ^ 64 - 1) where
+  in_one : (take_bytes input start).text ++ (input_ended (take_bytes input start).progress).text ≡ listing input
+  unfolding take_pieces concat
+  in_one =
+      let all : input ++ [] ≡ input = append-nil input in
+      let t = (take_bytes input start).text in
+      let e = any_pieces (input ∷ []) (rw all short) in
+      ap (λ (s : List ℕ). s ++ (input_ended (take_bytes input start).progress).text) (sym (append-nil t)) ∙ e ∙ ap listing all
+
+  pub in_whole : {q : Progress} → q ≡ (take_bytes input start).progress → (take_bytes input start).text ++ (input_ended q).text ≡ listing input
+  in_whole e = ap (λ (x : Progress). (take_bytes input start).text ++ (input_ended x).text) e ∙ in_one
+
+-- what has been read to its end is all of an input, and what was written is its listing
+all_listed : (unread unread' written before written' : Option (List ℕ)) {q : Progress} {more : Bool} → Lists unread unread' written before start q more (2 ^ 64 - 1)
+    → Appends before written' (input_ended q).text → IfSome unread (λ input. length input < 2 ^ 64 - 1 → Appends written written' (listing input))
+all_listed None unread' written before written' u last = tt
+all_listed (Some xs) None written before written' u last = absurd u.read
+all_listed (Some xs) (Some ys) written before written' {q} {more} u last = λ h. at more refl h
+  where
+    at : (m : Bool) → more ≡ m → length xs < 2 ^ 64 - 1 → Appends written written' (listing xs)
+    at true e h = let n = u.goes_on e in let k = ap length u.read in absurd (omega (arith, length-append u.input ys))
+    at false e h =
+        let all : xs ≡ u.input = u.read ∙ ap (λ (s : List ℕ). u.input ++ s) (u.ended e) ∙ append-nil u.input in
+        subst (λ (s : List ℕ). Appends written written' (listing s)) (sym all)
+        (subst (Appends written written') (in_whole u.input (rw (sym all) h) u.is) (Appends-trans written before written' _ _ u.wrote last))
+
+pub listed : {unread unread' written before : Option (List ℕ)} {p q : Progress} {more : Bool} → p ≡ start → Lists unread unread' written before p q more (2 ^ 64 - 1)
+    → {text : List ℕ} → text ≡ (input_ended q).text → (written' : Option (List ℕ)) → Appends before written' text
+    → IfSome unread (λ input. length input < 2 ^ 64 - 1 → Appends written written' (listing input))
+listed {unread} {unread'} {written} {before} {p} {q} {more} e u {text} f written' last =
+    all_listed unread unread' written before written' (subst (λ (x : Progress). Lists unread unread' written before x q more (2 ^ 64 - 1)) e u) (subst (Appends before written') f last)
 
 -- ---- parts of the code's answers
 
@@ -161,6 +230,18 @@ module _ (piece : List ℕ) (from : ℕ) where
       on ∙ ap (λ (x : Progress). (take_bytes (line_on piece from) x).progress) so
       ∙ sym (ap (λ (t : Told). t.progress) (two_pieces (take from piece) (line_on piece from) p₀))
       ∙ ap (λ (s : List ℕ). (take_bytes s p₀).progress) e
+
+  -- so what a turn leaves is reached
+  pub turn_left : {p₀ p : Progress} {l : Lent} {line : List ℕ} {r : Reading} {next : ℕ} → progress l line r ≡ (take_bytes (line_on piece from) p).progress
+      → p ≡ (take_bytes (take from piece) p₀).progress → from ≤ length piece → next ≡ line_next piece from → IsReached p₀ l line
+  turn_left {p₀} {r = r} {next = next} on so h is = record { reading = r; by = record { input = take next piece; is = turn p₀ h so on is } }
+
+  -- and its text follows
+  pub turn_text : (p₀ : Progress) {p : Progress} {next : ℕ} → from ≤ length piece → p ≡ (take_bytes (take from piece) p₀).progress → next ≡ line_next piece from
+      → (take_bytes (take next piece) p₀).text ≡ (take_bytes (take from piece) p₀).text ++ (take_bytes (line_on piece from) p).text
+  turn_text p₀ {p} {next} h so is =
+      let e : take from piece ++ line_on piece from ≡ take next piece = turn_more (next_least h) ∙ ap (λ (n : ℕ). take n piece) (sym is) in
+      sym (text_after (take from piece) (line_on piece from) p₀ p so ∙ ap (λ (s : List ℕ). (take_bytes s p₀).text) e)
 
   -- what a turn writes is a line's text, or nothing
   pub turn_fits : TextFits → (p : Progress) → length (take_bytes (line_on piece from) p).text ≤ out_room

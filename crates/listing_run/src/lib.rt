@@ -4,7 +4,7 @@
 
 mod lines;
 
-ghost use Rattle.std.specs.Prelude.{◌≡◌, ◌-◌, ◌^◌, ◌<◌, true, length, IfOk, OnOk, IfSome, MatchResult};
+ghost use Rattle.std.specs.Prelude.{◌≡◌, ◌-◌, ◌^◌, ◌<◌, true, length, IfOk, OnOk, OnErr, IfSome};
 ghost use Rattle.std.specs.Io.KnownBytes.{Appends};
 ghost use Rattle.lowering.specs.Lowering.{lent};
 ghost use Rattle.listing_bytes.specs.Listing.{listing};
@@ -102,7 +102,8 @@ fn read_all<R: Read, W: Write>(
 ) -> io::Result<Run>
     requires reading_value { progress (lent list.old names.old edges.old dispatches.old bads.old) line.old reading ≡ start }
     requires out_len { length out.old ≡ out_room }
-    ensures reached { MatchResult result (λ run. Reaches (progress (lent list.old names.old edges.old dispatches.old bads.old) line.old reading) (progress (lent list.new names.new edges.new dispatches.new bads.new) line.new run.reading)) (λ _. IsReached (progress (lent list.old names.old edges.old dispatches.old bads.old) line.old reading) (lent list.new names.new edges.new dispatches.new bads.new) line.new) }
+    ensures reached { IfOk result (λ run. Reaches (progress (lent list.old names.old edges.old dispatches.old bads.old) line.old reading) (progress (lent list.new names.new edges.new dispatches.new bads.new) line.new run.reading)) }
+    ensures left { OnErr result (IsReached (progress (lent list.old names.old edges.old dispatches.old bads.old) line.old reading) (lent list.new names.new edges.new dispatches.new bads.new) line.new) }
     ensures listed { IfOk result (λ run. Lists (R.remaining reader.old) (R.remaining reader.new) (W.contents writer.old) (W.contents writer.new) (progress (lent list.old names.old edges.old dispatches.old bads.old) line.old reading) (progress (lent list.new names.new edges.new dispatches.new bads.new) line.new run.reading) run.more (2 ^ 64 - 1)) }
 {
     let mut run = Run {
@@ -136,7 +137,8 @@ fn read_piece<R: Read, W: Write>(
     reading: Reading,
 ) -> io::Result<Run>
     requires { length out.old ≡ out_room }
-    ensures reached { MatchResult result (λ run. Reaches (progress (lent list.old names.old edges.old dispatches.old bads.old) line.old reading) (progress (lent list.new names.new edges.new dispatches.new bads.new) line.new run.reading)) (λ _. IsReached (progress (lent list.old names.old edges.old dispatches.old bads.old) line.old reading) (lent list.new names.new edges.new dispatches.new bads.new) line.new) }
+    ensures reached { IfOk result (λ run. Reaches (progress (lent list.old names.old edges.old dispatches.old bads.old) line.old reading) (progress (lent list.new names.new edges.new dispatches.new bads.new) line.new run.reading)) }
+    ensures left { OnErr result (IsReached (progress (lent list.old names.old edges.old dispatches.old bads.old) line.old reading) (lent list.new names.new edges.new dispatches.new bads.new) line.new) }
     ensures listed { IfOk result (λ run. Lists (R.remaining reader.old) (R.remaining reader.new) (W.contents writer.old) (W.contents writer.new) (progress (lent list.old names.old edges.old dispatches.old bads.old) line.old reading) (progress (lent list.new names.new edges.new dispatches.new bads.new) line.new run.reading) run.more 1) }
 {
     let mut piece = [0u8; PIECE];
@@ -175,7 +177,8 @@ fn take_piece<W: Write>(
     reading: Reading,
 ) -> io::Result<Run>
     requires { length out.old ≡ out_room }
-    ensures reached { MatchResult result (λ run. Reaches (progress (lent list.old names.old edges.old dispatches.old bads.old) line.old reading) (progress (lent list.new names.new edges.new dispatches.new bads.new) line.new run.reading)) (λ _. IsReached (progress (lent list.old names.old edges.old dispatches.old bads.old) line.old reading) (lent list.new names.new edges.new dispatches.new bads.new) line.new) }
+    ensures reached { IfOk result (λ run. Reaches (progress (lent list.old names.old edges.old dispatches.old bads.old) line.old reading) (progress (lent list.new names.new edges.new dispatches.new bads.new) line.new run.reading)) }
+    ensures left { OnErr result (IsReached (progress (lent list.old names.old edges.old dispatches.old bads.old) line.old reading) (lent list.new names.new edges.new dispatches.new bads.new) line.new) }
     ensures whole { IfOk result (λ run. progress (lent list.new names.new edges.new dispatches.new bads.new) line.new run.reading ≡ (take_bytes piece.now (progress (lent list.old names.old edges.old dispatches.old bads.old) line.old reading)).progress) }
     ensures wrote { OnOk result (Appends (W.contents writer.old) (W.contents writer.new) (take_bytes piece.now (progress (lent list.old names.old edges.old dispatches.old bads.old) line.old reading)).text) }
     ensures more { IfOk result (λ run. run.more ≡ true) }
@@ -188,7 +191,10 @@ fn take_piece<W: Write>(
         );
         let after = t.reading;
         let n = t.length;
-        writer.write_all(&out[..n])?;
+        match writer.write_all(&out[..n]) {
+            Ok(()) => {}
+            Err(e) => return Err(e),
+        }
         now = after;
         from = t.next;
     }
