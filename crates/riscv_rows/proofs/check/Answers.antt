@@ -1,14 +1,14 @@
 -- The tests come in the definition's order, and each answers as its own definition does. Assumes nothing.
--- the tests from each one on
 use Rattle.std.proofs.Common.{lt-ltb, le-ltb, ◌≡◌, ℕ, ◌<◌, Bool, false, not, [], ◌∷◌, refl, sym, ap, ◌∙◌}
 use Rattle.riscv.specs.declared.Instruction.{Instruction}
 use Rattle.riscv.specs.declared.Format.{Format}
-use Rattle.riscv.specs.Kind.{kind_at}
+use Rattle.riscv.specs.Kind.{kind_at, kind_count}
 use Rattle.riscv.specs.Format.{format, registers_out, immediate_out}
 use Rattle.riscv.specs.Refusal.{amount_out, zero_srliw, zero_rd, indirect_offset, first, refusal}
 use Rattle.riscv.proofs.First.{Tests, hit, miss}
 use Rattle.riscv_rows.proofs.check.Goals as goal
 
+-- the tests from each one on
 abbrev from6 : Instruction → Tests
 from6 i = (indirect_offset (kind_at i.kind) i.rs1 i.imm, 6) ∷ []
 
@@ -28,14 +28,14 @@ abbrev from2 : Instruction → Tests
 from2 i = (registers_out (format (kind_at i.kind)) i.rd i.rs1 i.rs2, 2) ∷ from_immediate i
 
 -- the answer is that of the tests which are left
-past1 : (i : Instruction) {x : ℕ} → i.kind < 50 → x ≡ first (from2 i) → x ≡ refusal i
+past1 : (i : Instruction) {x : ℕ} → i.kind < kind_count → x ≡ first (from2 i) → x ≡ refusal i
 unfolding refusal
 past1 i l h = miss 1 (from2 i) (ap not (lt-ltb _ _ l)) h
 
-past2 : (i : Instruction) {x : ℕ} → i.kind < 50 → registers_out (format (kind_at i.kind)) i.rd i.rs1 i.rs2 ≡ false → x ≡ first (from_immediate i) → x ≡ refusal i
+past2 : (i : Instruction) {x : ℕ} → i.kind < kind_count → registers_out (format (kind_at i.kind)) i.rd i.rs1 i.rs2 ≡ false → x ≡ first (from_immediate i) → x ≡ refusal i
 past2 i l r h = past1 i l (miss 2 (from_immediate i) r h)
 
-past3 : (i : Instruction) {x : ℕ} → i.kind < 50 → registers_out (format (kind_at i.kind)) i.rd i.rs1 i.rs2 ≡ false → immediate_out (format (kind_at i.kind)) i.imm ≡ false
+past3 : (i : Instruction) {x : ℕ} → i.kind < kind_count → registers_out (format (kind_at i.kind)) i.rd i.rs1 i.rs2 ≡ false → immediate_out (format (kind_at i.kind)) i.imm ≡ false
     → x ≡ first (from3 i) → x ≡ refusal i
 past3 i l r m h = past2 i l r (miss 2 (from3 i) m h)
 
