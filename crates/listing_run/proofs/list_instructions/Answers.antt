@@ -1,5 +1,5 @@
 -- What is lent is the definition's storage, with the start in it, and the last line's output has room. Assumes nothing.
-use Rattle.std.proofs.Common.{ℕ, List, sym, ◌∙◌, ap₂, arith, length-take}
+use Rattle.std.proofs.Common.{ℕ, List, ◌∙◌, ap₂, arith, length-take}
 use Rattle.std.proofs.lemmas.Result.{on_ok_weaker}
 use Rattle.lowering.specs.Lowering.{lent}
 use Rattle.listing_bytes.specs.declared.Reading.{Reading}

@@ -1,10 +1,10 @@
 -- Under x0 a name and a bad, else a dispatch. Assumes nothing.
--- what has a bad line has no dispatch
 use mathlib.Core.Path.{◌≡◌, sym, ◌∙◌, refl}
 use mathlib.Core.Bool.{Bool, true, false, not, ◌&&◌}
 use Rattle.riscv.specs.Class.{is_jalr, has_dispatch}
 use Rattle.lowering_calls.proofs.apart.put_jalr.Goals as goal
 
+-- what has a bad line has no dispatch
 not_both : (a b : Bool) → (a && b) ≡ true → (a && not b) ≡ false
 not_both true true e = refl
 not_both true false e = sym e

@@ -1,5 +1,4 @@
 -- The two digits. Assumes nothing.
--- a digit is a byte
 use Prim.Native.Nat.{ℕ, ◌+◌, ◌*◌, ◌/◌, ◌%◌, ◌<◌}
 use mathlib.Core.Path.{◌≡◌, refl}
 use native.Mathlib.Numerals.{add-one}
@@ -9,6 +8,7 @@ use borrow.Author.Tests.{lt-ltb}
 use Rattle.text.specs.Numeral.{glyph}
 use Rattle.row_text.proofs.digits.put_two.Goals as goal
 
+-- a digit is a byte
 digit_byte : (d : ℕ) → d < 10 → glyph d < 256
 digit_byte d h = rw (lt-ltb d 10 h) (omega arith)
 
