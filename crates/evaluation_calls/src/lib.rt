@@ -224,7 +224,7 @@ fn cell(
     }
 }
 
-// Two words, one after the other. This is compiled into its caller, so that a line that waits for its operands takes less of the stack.
+// Two words, one after the other. This is compiled into its callers, so that a line that waits for its operands takes less of the stack.
 #[inline(always)]
 #[cycle(alike_bits_cell_eval_bit_eval_word_words)]
 fn words(list: &[u64], values: &[u64], memory: &[u64], a: NodeRef, b: NodeRef, visits: u64) -> Pair
@@ -240,7 +240,7 @@ fn words(list: &[u64], values: &[u64], memory: &[u64], a: NodeRef, b: NodeRef, v
     }
 }
 
-// Two bits, one after the other. This is compiled into its caller, so that a line that waits for its operands takes less of the stack.
+// Two bits, one after the other. This is compiled into its callers, so that a line that waits for its operands takes less of the stack.
 #[inline(always)]
 #[cycle(alike_bits_cell_eval_bit_eval_word_words)]
 fn bits(list: &[u64], values: &[u64], memory: &[u64], a: NodeRef, b: NodeRef, visits: u64) -> Pair
