@@ -1,13 +1,13 @@
 -- A sort's number names it alone. Assumes nothing.
+use Rattle.std.specs.Prelude.{Some}
 use Prim.Native.Nat.{◌≤◌}
 use mathlib.Core.Path.{◌≡◌, refl, sym, ap, ◌∙◌}
 use lib.Dec.{T, eqb→eq, lit≤}
 use Rattle.btor2.specs.declared.NodeType.{NodeType}
 use Rattle.btor2.specs.declared.NodeType.TheVariants.{Bit, Word, Memory, Input1Byte, Input2Byte, Input3Byte, Input4Byte, Input5Byte, Input6Byte, Input7Byte}
-use Rattle.btor2.specs.declared.MaybeSort.TheVariants.{Sort}
 use Rattle.btor2.specs.Sort.{sort_number, sort_numbered, width, same_sort}
 
-pub sort_back : (s : NodeType) → sort_numbered (sort_number s) ≡ Sort s
+pub sort_back : (s : NodeType) → sort_numbered (sort_number s) ≡ Some s
 sort_back Bit = refl
 sort_back Word = refl
 sort_back Memory = refl
@@ -19,7 +19,7 @@ sort_back Input5Byte = refl
 sort_back Input6Byte = refl
 sort_back Input7Byte = refl
 
-same_number : (s t : NodeType) → Sort s ≡ Sort t → s ≡ t
+same_number : (s t : NodeType) → Some s ≡ Some t → s ≡ t
 same_number s t e = cc
 
 pub same_sort_lem : (s t : NodeType) → T (same_sort s t) → s ≡ t

@@ -1,21 +1,20 @@
 -- The table of the sorts is what code and definitions say of them. Assumes nothing.
-use Rattle.std.proofs.Common.{◌≡◌, ℕ, ◌+◌, Bool, true, false, cond, List, [], ◌∷◌, eqb, sym, refl, ◌∙◌, ap}
+use Rattle.std.proofs.Common.{◌≡◌, ℕ, ◌+◌, Bool, true, false, cond, List, [], ◌∷◌, eqb, sym, refl, ◌∙◌, ap, Some}
 use borrow.Author.Tests.{eqb-true}
 use Rattle.btor2.specs.declared.NodeType.{NodeType}
 use Rattle.btor2.specs.declared.NodeType.TheVariants.{Bit, Word, Memory, Input1Byte, Input2Byte, Input3Byte, Input4Byte, Input5Byte, Input6Byte, Input7Byte}
-use Rattle.btor2.specs.declared.MaybeSort.TheVariants.{Sort}
 use Rattle.btor2.specs.Sort.{sort_number, sort_numbered, first_numbered, sorts, width}
 use Rattle.btor2.specs.SortTable.{sort_row, Tabled}
 use Rattle.btor2.proofs.Sort.{sort_back}
 
-same_sort_read : (s t : NodeType) → Sort s ≡ Sort t → s ≡ t
+same_sort_read : (s t : NodeType) → Some s ≡ Some t → s ≡ t
 same_sort_read s t e = cc
 
-number_read : (ss : List NodeType) (n : ℕ) (s : NodeType) → first_numbered ss n ≡ Sort s → n ≡ sort_number s
+number_read : (ss : List NodeType) (n : ℕ) (s : NodeType) → first_numbered ss n ≡ Some s → n ≡ sort_number s
 number_read [] n s e = absurd (cc)
 number_read (t ∷ ss) n s e = go (number_read ss n s) (eqb n (sort_number t)) refl e
   where
-    go : (first_numbered ss n ≡ Sort s → n ≡ sort_number s) → (b : Bool) → eqb n (sort_number t) ≡ b → cond b (Sort t) (first_numbered ss n) ≡ Sort s → n ≡ sort_number s
+    go : (first_numbered ss n ≡ Some s → n ≡ sort_number s) → (b : Bool) → eqb n (sort_number t) ≡ b → cond b (Some t) (first_numbered ss n) ≡ Some s → n ≡ sort_number s
     go more true h f = eqb-true n (sort_number t) h ∙ ap sort_number (same_sort_read t s f)
     go more false h f = more f
 

@@ -1,11 +1,9 @@
 -- BTOR2 node lines, over any type A of operands: what a line says, without its identifier. The 22 kinds are those of
 -- unicorn's `Node` other than Comment, under BTOR2's names (CAV 2018 paper, its table of operators).
-use Rattle.std.specs.Prelude.{ℕ, Bool, true, false, cond}
+use Rattle.std.specs.Prelude.{ℕ, Bool, true, false, cond, Option, Some, None}
 use Rattle.btor2.specs.declared.Name.{Name}
 use Rattle.btor2.specs.declared.NodeType.{NodeType}
 use Rattle.btor2.specs.declared.NodeType.TheVariants.{Bit, Word, Memory}
-use Rattle.btor2.specs.declared.MaybeSort.{MaybeSort}
-use Rattle.btor2.specs.declared.MaybeSort.TheVariants.{Sort, NoSort}
 
 -- the operators on two words; `Node` calls udiv, sdiv and urem Divu, Div and Rem
 pub data Bin : Type 0 where
@@ -60,23 +58,23 @@ bin_sort srl = Word
 bin_sort ult = Bit
 
 -- the sort of the value that a line carries: Next, Bad and unknown lines carry none
-unfoldable pub carried : {A : Type 0} → Op A → MaybeSort
-carried (const s n) = Sort s
-carried (read m a) = Sort Word
-carried (write m a v) = Sort Memory
-carried (bin o a b) = Sort (bin_sort o)
-carried (uext s a) = Sort Word
-carried (ite s c a b) = Sort s
-carried (eq a b) = Sort Bit
-carried (and s a b) = Sort s
-carried (or s a b) = Sort s
-carried (not s a) = Sort s
-carried (state s m) = Sort s
-carried (state_init s a m) = Sort s
-carried (next s a b) = NoSort
-carried (input s m) = Sort s
-carried (bad a m) = NoSort
-carried unknown = NoSort
+unfoldable pub carried : {A : Type 0} → Op A → Option NodeType
+carried (const s n) = Some s
+carried (read m a) = Some Word
+carried (write m a v) = Some Memory
+carried (bin o a b) = Some (bin_sort o)
+carried (uext s a) = Some Word
+carried (ite s c a b) = Some s
+carried (eq a b) = Some Bit
+carried (and s a b) = Some s
+carried (or s a b) = Some s
+carried (not s a) = Some s
+carried (state s m) = Some s
+carried (state_init s a m) = Some s
+carried (next s a b) = None
+carried (input s m) = Some s
+carried (bad a m) = None
+carried unknown = None
 
 abbrev pub has_init : {A : Type 0} → Op A → Bool
 has_init (const s n) = false

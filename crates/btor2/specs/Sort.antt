@@ -1,9 +1,7 @@
 -- The ten sorts of `write_model` at 64 bits: the number that each is printed as, and its width. Document 01, "Port order", 1.
-use Rattle.std.specs.Prelude.{ℕ, Bool, cond, List, [], ◌∷◌, eqb}
+use Rattle.std.specs.Prelude.{ℕ, Bool, cond, List, [], ◌∷◌, eqb, Option, Some, None}
 use Rattle.btor2.specs.declared.NodeType.{NodeType}
 use Rattle.btor2.specs.declared.NodeType.TheVariants.{Bit, Word, Memory, Input1Byte, Input2Byte, Input3Byte, Input4Byte, Input5Byte, Input6Byte, Input7Byte}
-use Rattle.btor2.specs.declared.MaybeSort.{MaybeSort}
-use Rattle.btor2.specs.declared.MaybeSort.TheVariants.{Sort, NoSort}
 
 -- `1 sort bitvec 1`, `2 sort bitvec 64`, `3 sort array 2 2`, `11 sort bitvec 8` to `17 sort bitvec 56`
 abbrev pub sort_number : NodeType → ℕ
@@ -32,20 +30,20 @@ width Input6Byte = 48
 width Input7Byte = 56
 
 -- the first of some sorts that is printed as n
-abbrev pub first_numbered : List NodeType → ℕ → MaybeSort
-first_numbered [] n = NoSort
-first_numbered (s ∷ ss) n = cond (eqb n (sort_number s)) (Sort s) (first_numbered ss n)
+abbrev pub first_numbered : List NodeType → ℕ → Option NodeType
+first_numbered [] n = None
+first_numbered (s ∷ ss) n = cond (eqb n (sort_number s)) (Some s) (first_numbered ss n)
 
 abbrev pub sorts : List NodeType
 sorts = Bit ∷ Word ∷ Memory ∷ Input1Byte ∷ Input2Byte ∷ Input3Byte ∷ Input4Byte ∷ Input5Byte ∷ Input6Byte ∷ Input7Byte ∷ []
 
-abbrev pub sort_numbered : ℕ → MaybeSort
+abbrev pub sort_numbered : ℕ → Option NodeType
 sort_numbered n = first_numbered sorts n
 
 -- the number of a sort, 0 for none
-abbrev pub sort_or_none : MaybeSort → ℕ
-sort_or_none (Sort s) = sort_number s
-sort_or_none NoSort = 0
+abbrev pub sort_or_none : Option NodeType → ℕ
+sort_or_none (Some s) = sort_number s
+sort_or_none None = 0
 
 -- the same sort
 abbrev pub same_sort : NodeType → NodeType → Bool

@@ -1,22 +1,20 @@
 -- The sort rule (document 01, "Start, storage, evaluation", after the BTOR2 paper): a test over a list of lines.
-use Rattle.std.specs.Prelude.{ℕ, ◌^◌, Bool, true, false, ◌&&◌, ◌||◌, List, [], ◌∷◌, ltb}
+use Rattle.std.specs.Prelude.{ℕ, ◌^◌, Bool, true, false, ◌&&◌, ◌||◌, List, [], ◌∷◌, ltb, Option, Some, None}
 use Rattle.std.proofs.Math.Bool as B
 use Rattle.btor2.specs.declared.NodeType.{NodeType}
 use Rattle.btor2.specs.declared.NodeType.TheVariants.{Bit, Word, Memory}
-use Rattle.btor2.specs.declared.MaybeSort.{MaybeSort}
-use Rattle.btor2.specs.declared.MaybeSort.TheVariants.{Sort, NoSort}
 use Rattle.btor2.specs.Sort.{width, same_sort}
 use Rattle.btor2.specs.Op.{Op, const, read, write, bin, uext, ite, eq, and, or, not, state, state_init, next, input, bad, unknown, map_op, carried}
 use Rattle.btor2.specs.Walk.{walk}
 
 -- what a line is to a later line that names it: the sort that it carries, and whether it is a State
 pub record Mark : Type 0 where
-  pub sort : MaybeSort
+  pub sort : Option NodeType
   pub is_state : Bool
 
-abbrev pub has_sort : NodeType → MaybeSort → Bool
-has_sort s (Sort t) = same_sort s t
-has_sort s NoSort = false
+abbrev pub has_sort : NodeType → Option NodeType → Bool
+has_sort s (Some t) = same_sort s t
+has_sort s None = false
 
 -- a value line of sort s
 abbrev pub is : NodeType → Mark → Bool
@@ -85,7 +83,7 @@ judge p o = record { mark = mark_of o; right = rule (map_op (λ j. j.mark) o) }
 
 -- no earlier line
 abbrev pub no_line : Judged
-no_line = record { mark = record { sort = NoSort; is_state = false }; right = false }
+no_line = record { mark = record { sort = None; is_state = false }; right = false }
 
 unfoldable pub judged : List (Op ℕ) → List Judged
 judged xs = walk Judged no_line judge [] xs

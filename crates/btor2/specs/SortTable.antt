@@ -1,8 +1,7 @@
 -- The ten sorts in one table: the number that each is printed as, its width, and the padding of a `uext` from it. Document 02, R-5.
-use Rattle.std.specs.Prelude.{ℕ, ◌+◌, ◌≡◌}
+use Rattle.std.specs.Prelude.{ℕ, ◌+◌, ◌≡◌, Some}
 use Rattle.btor2.specs.declared.NodeType.{NodeType}
 use Rattle.btor2.specs.declared.NodeType.TheVariants.{Bit, Word, Memory, Input1Byte, Input2Byte, Input3Byte, Input4Byte, Input5Byte, Input6Byte, Input7Byte}
-use Rattle.btor2.specs.declared.MaybeSort.TheVariants.{Sort}
 use Rattle.btor2.specs.Sort.{sort_number, sort_numbered, width}
 
 -- What is said of a sort: the number of its sort line, the bits of a value, and by how many bits `uext` extends one to a Word. An array has
@@ -37,6 +36,6 @@ padding s = (sort_row s).padding
 pub record Tabled (s : NodeType) : Type 0 where
   pub numbered : (sort_row s).number ≡ sort_number s
   pub wide : (sort_row s).width ≡ width s
-  pub read : sort_numbered (sort_row s).number ≡ Sort s
-  pub alone : (n : ℕ) → sort_numbered n ≡ Sort s → n ≡ (sort_row s).number
+  pub read : sort_numbered (sort_row s).number ≡ Some s
+  pub alone : (n : ℕ) → sort_numbered n ≡ Some s → n ≡ (sort_row s).number
   pub extended : (sort_row s).width + (sort_row s).padding ≡ (sort_row Word).width

@@ -13,28 +13,30 @@ pub struct Nid(pub u64);
 #[derive(Clone, Copy)]
 pub struct NodeRef(pub usize);
 
-#[derive(Clone, Copy)]
+// A sort, and the number that it is printed as.
+#[derive(Clone, Copy, PartialEq, Eq)]
 pub enum NodeType {
-    Bit,
-    Word,
-    Memory,
-    Input1Byte,
-    Input2Byte,
-    Input3Byte,
-    Input4Byte,
-    Input5Byte,
-    Input6Byte,
-    Input7Byte,
+    Bit = 1,
+    Word = 2,
+    Memory = 3,
+    Input1Byte = 11,
+    Input2Byte = 12,
+    Input3Byte = 13,
+    Input4Byte = 14,
+    Input5Byte = 15,
+    Input6Byte = 16,
+    Input7Byte = 17,
 }
 
 // What `get_sort` gives for the sorts of the builder's own lines.
-pub const BIT: u64 = 1;
+pub const BIT: u64 = NodeType::Bit as u64;
 
-pub const WORD: u64 = 2;
+pub const WORD: u64 = NodeType::Word as u64;
 
-pub const MEMORY: u64 = 3;
+pub const MEMORY: u64 = NodeType::Memory as u64;
 
-// Where the bytes of a name lie: area 1 is the host's, 2 ours, and a missing name has area 0.
+// Where the bytes of a name lie: area 1 is the host's, 2 ours, and a missing name has area 0. The area is a number and no enum, since a record may
+// hold any other, and `get_at` of btor2_list/specs/Record promises that very number.
 #[derive(Clone, Copy)]
 pub struct Name {
     pub area: u64,
@@ -42,47 +44,29 @@ pub struct Name {
     pub len: u64,
 }
 
-// A sort, or none.
-#[derive(Clone, Copy)]
-pub enum MaybeSort {
-    Sort(NodeType),
-    NoSort,
-}
-
-// The number that a sort is printed as.
+// The number that a sort is printed as. `From` would be no plainer: the name is that of unicorn's function.
 pub fn get_sort(sort: NodeType) -> u64
     ensures { result ≡ sort_number sort }
 {
-    match sort {
-        NodeType::Bit => 1,
-        NodeType::Word => 2,
-        NodeType::Memory => 3,
-        NodeType::Input1Byte => 11,
-        NodeType::Input2Byte => 12,
-        NodeType::Input3Byte => 13,
-        NodeType::Input4Byte => 14,
-        NodeType::Input5Byte => 15,
-        NodeType::Input6Byte => 16,
-        NodeType::Input7Byte => 17,
-    }
+    sort as u64
 }
 
-// The sort that is printed as a number.
-pub fn sort_of(number: u64) -> MaybeSort
+// The sort that is printed as a number. `TryFrom` would be no plainer: it needs an error type, where None says as much.
+pub fn sort_of(number: u64) -> Option<NodeType>
     ensures { result ≡ sort_numbered number }
 {
     match number {
-        1 => MaybeSort::Sort(NodeType::Bit),
-        2 => MaybeSort::Sort(NodeType::Word),
-        3 => MaybeSort::Sort(NodeType::Memory),
-        11 => MaybeSort::Sort(NodeType::Input1Byte),
-        12 => MaybeSort::Sort(NodeType::Input2Byte),
-        13 => MaybeSort::Sort(NodeType::Input3Byte),
-        14 => MaybeSort::Sort(NodeType::Input4Byte),
-        15 => MaybeSort::Sort(NodeType::Input5Byte),
-        16 => MaybeSort::Sort(NodeType::Input6Byte),
-        17 => MaybeSort::Sort(NodeType::Input7Byte),
-        _ => MaybeSort::NoSort,
+        1 => Some(NodeType::Bit),
+        2 => Some(NodeType::Word),
+        3 => Some(NodeType::Memory),
+        11 => Some(NodeType::Input1Byte),
+        12 => Some(NodeType::Input2Byte),
+        13 => Some(NodeType::Input3Byte),
+        14 => Some(NodeType::Input4Byte),
+        15 => Some(NodeType::Input5Byte),
+        16 => Some(NodeType::Input6Byte),
+        17 => Some(NodeType::Input7Byte),
+        _ => None,
     }
 }
 
@@ -108,16 +92,5 @@ pub fn bitsize(sort: NodeType) -> u64
 pub fn padding(from: NodeType) -> u64
     ensures { result ≡ padding from }
 {
-    match from {
-        NodeType::Bit => 63,
-        NodeType::Word => 0,
-        NodeType::Memory => 64,
-        NodeType::Input1Byte => 56,
-        NodeType::Input2Byte => 48,
-        NodeType::Input3Byte => 40,
-        NodeType::Input4Byte => 32,
-        NodeType::Input5Byte => 24,
-        NodeType::Input6Byte => 16,
-        NodeType::Input7Byte => 8,
-    }
+    bitsize(NodeType::Word) - bitsize(from)
 }

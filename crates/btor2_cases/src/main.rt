@@ -6,105 +6,84 @@
 //   5 LINES PLACE                                                    tells the address of the line at a place
 #![tactic(auto)]
 
-use btor2::{MaybeSort, Name, NodeRef, get_sort};
-use btor2_list::{Found, MaybeAddress};
-use cases::{read_decimal, read_full, read_record, show, show_record};
+use btor2::{Name, NodeRef, get_sort};
+use cases::{Commands, Placed, read_full, show_record};
 use std::io;
 
 fn main(rt: HostRuntime) -> io::Result<()> {
     let mut buffer = [0u8; 65536];
     let n = read_full(&mut rt.stdin(), &mut buffer)?;
     let mut list = [0u64; 23];
-    run(&rt, &buffer[..n], &mut list)
-}
-
-fn run(rt: &impl Print, text: &[u8], list: &mut [u64]) -> io::Result<()> {
-    let mut at = 0;
-    while at < text.len() {
-        let next = run_line(rt, text, at, list)?;
-        if next <= at {
-            return Ok(());
+    let mut commands = Commands::new(&buffer[..n]);
+    // Each command takes a byte at least.
+    for _ in 0..n {
+        if commands.is_empty() {
+            break;
         }
-        at = next;
+        run_command(&rt, &mut commands, &mut list)?;
     }
     Ok(())
 }
 
-// One command; the answer is where the next one starts.
-fn run_line(rt: &impl Print, text: &[u8], at: usize, list: &mut [u64]) -> io::Result<usize> {
-    let command = read_decimal(text, at);
-    let from = command.next;
-    let which = command.value;
-    if which == 1 {
-        return run_put(rt, text, from, list);
-    }
-    if which == 2 {
-        return run_get(rt, text, from, list);
-    }
-    if which == 3 {
-        return run_look(rt, text, from, list);
-    }
-    if which == 4 {
-        return run_name(rt, text, from);
-    }
-    run_address(rt, text, from, list)
-}
-
-fn run_put(rt: &impl Print, text: &[u8], at: usize, list: &mut [u64]) -> io::Result<usize> {
-    let read = read_record(text, at);
-    if btor2_list::put(list, read.place, read.line) {
-        rt.write_all(b"put\n")?;
-    } else {
-        rt.write_all(b"outside\n")?;
-    }
-    Ok(read.next)
-}
-
-fn run_get(rt: &impl Print, text: &[u8], at: usize, list: &[u64]) -> io::Result<usize> {
-    let place = read_decimal(text, at);
-    match btor2_list::get(list, NodeRef(place.value as usize)) {
-        Found::Line(line) => show_record(rt, line)?,
-        Found::Outside => rt.write_all(b"outside\n")?,
-    }
-    Ok(place.next)
-}
-
-fn run_look(rt: &impl Print, text: &[u8], at: usize, list: &[u64]) -> io::Result<usize> {
-    let lines = read_decimal(text, at);
-    let place = read_decimal(text, lines.next);
-    let looked = btor2_list::look(list, lines.value as usize, NodeRef(place.value as usize));
-    let sort = looked.sort;
-    match sort {
-        MaybeSort::NoSort => show(rt, looked.nid.0, b" no value\n")?,
-        MaybeSort::Sort(s) => {
-            show(rt, looked.nid.0, b" value of sort ")?;
-            show(rt, get_sort(s), b"\n")?;
+fn run_command(rt: &impl Print, commands: &mut Commands, list: &mut [u64]) -> io::Result<()> {
+    match commands.number() {
+        1 => show_put(rt, commands.record(), list),
+        2 => {
+            let place = commands.number();
+            show_got(rt, NodeRef(place as usize), list)
+        }
+        3 => {
+            let lines = commands.number();
+            let place = commands.number();
+            show_looked(rt, lines as usize, NodeRef(place as usize), list)
+        }
+        4 => {
+            let area = commands.number();
+            let at = commands.number();
+            let len = commands.number();
+            show_name(rt, Name { area, at, len })
+        }
+        _ => {
+            let lines = commands.number();
+            let place = commands.number();
+            show_address(rt, lines as usize, NodeRef(place as usize), list)
         }
     }
-    Ok(place.next)
 }
 
-fn run_name(rt: &impl Print, text: &[u8], at: usize) -> io::Result<usize> {
-    let area = read_decimal(text, at);
-    let from = read_decimal(text, area.next);
-    let len = read_decimal(text, from.next);
-    let name = Name {
-        area: area.value,
-        at: from.value,
-        len: len.value,
-    };
-    rt.write_all(b"[")?;
-    rt.write_all(btor2_list::name_bytes(b"host", b"own area", name))?;
-    rt.write_all(b"]\n")?;
-    Ok(len.next)
-}
-
-fn run_address(rt: &impl Print, text: &[u8], at: usize, list: &[u64]) -> io::Result<usize> {
-    let lines = read_decimal(text, at);
-    let place = read_decimal(text, lines.next);
-    match btor2_list::address_at(list, lines.value as usize, NodeRef(place.value as usize)) {
-        MaybeAddress::Address(address) => show(rt, address, b"\n")?,
-        MaybeAddress::NoAddress => rt.write_all(b"no address\n")?,
+fn show_put(rt: &impl Print, read: Placed, list: &mut [u64]) -> io::Result<()> {
+    if btor2_list::put(list, read.place, read.line) {
+        println!(rt; "put")
+    } else {
+        println!(rt; "outside")
     }
-    Ok(place.next)
+}
+
+fn show_got(rt: &impl Print, place: NodeRef, list: &[u64]) -> io::Result<()> {
+    match btor2_list::get(list, place) {
+        Some(line) => show_record(rt, line),
+        None => println!(rt; "outside"),
+    }
+}
+
+fn show_looked(rt: &impl Print, lines: usize, place: NodeRef, list: &[u64]) -> io::Result<()> {
+    let looked = btor2_list::look(list, lines, place);
+    let nid = looked.nid.0;
+    match looked.sort {
+        None => println!(rt; "{nid} no value"),
+        Some(sort) => println!(rt; "{nid} value of sort {}", get_sort(sort)),
+    }
+}
+
+fn show_name(rt: &impl Print, name: Name) -> io::Result<()> {
+    print!(rt; "[")?;
+    rt.write_all(btor2_list::name_bytes(b"host", b"own area", name))?;
+    println!(rt; "]")
+}
+
+fn show_address(rt: &impl Print, lines: usize, place: NodeRef, list: &[u64]) -> io::Result<()> {
+    match btor2_list::address_at(list, lines, place) {
+        Some(address) => println!(rt; "{address}"),
+        None => println!(rt; "no address"),
+    }
 }

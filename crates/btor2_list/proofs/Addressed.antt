@@ -1,4 +1,5 @@
 -- Lines that are put without an address and then given one are the lines put with it. Assumes nothing.
+use Rattle.std.specs.Prelude.{Option, Some, None}
 use Prim.Native.Nat.{ℕ, zero, suc, ◌+◌, ◌-◌, ◌/◌, ◌%◌, ◌≤◌, ◌<◌}
 use mathlib.Core.Path.{◌≡◌, refl, ap, ◌∙◌}
 use mathlib.Core.Bool.{Bool, true, false, cond}
@@ -12,8 +13,6 @@ use lib.ListN.{length, get_or, set, length-set}
 use lib.Seq.{sets, set-set, set_comm}
 use Rattle.btor2.specs.Op.{Op, const, read, write, bin, uext, ite, eq, and, or, not, state, state_init, next, input, bad, unknown}
 use Rattle.btor2_list.specs.declared.Line.{Line}
-use Rattle.btor2_list.specs.declared.MaybeAddress.{MaybeAddress}
-use Rattle.btor2_list.specs.declared.MaybeAddress.TheVariants.{Address, NoAddress}
 use Rattle.btor2_list.specs.Record.{capacity, words_for, address_mark_in, head_of, marked, with_mark, words, holds, put_at, with_address, address_lines}
 use Rattle.btor2_list.specs.Node.{line_of}
 use Rattle.btor2_list.proofs.Stored.{below, within, no_mark, put_length}
@@ -38,10 +37,10 @@ addressed_length ws p (suc n) a = go (holds vs (p + n)) ∙ addressed_length ws 
 -- ---- one record
 
 -- the same line with an address, or with none
-abbrev pub for : MaybeAddress → Line → Line
+abbrev pub for : Option ℕ → Line → Line
 for w l = record { nid = l.nid; kind = l.kind; sort = l.sort; op1 = l.op1; op2 = l.op2; op3 = l.op3; imm = l.imm; name = l.name; address = w }
 
-line_for : (w v : MaybeAddress) (nid : ℕ) (o : Op ℕ) → line_of w nid o ≡ for w (line_of v nid o)
+line_for : (w v : Option ℕ) (nid : ℕ) (o : Op ℕ) → line_of w nid o ≡ for w (line_of v nid o)
 line_for w v nid (const s n) = refl
 line_for w v nid (read m a) = refl
 line_for w v nid (write m a x) = refl
@@ -59,7 +58,7 @@ line_for w v nid (input s m) = refl
 line_for w v nid (bad a m) = refl
 line_for w v nid unknown = refl
 
-pub line_address : (w : MaybeAddress) (nid : ℕ) (o : Op ℕ) → (line_of w nid o).address ≡ w
+pub line_address : (w : Option ℕ) (nid : ℕ) (o : Op ℕ) → (line_of w nid o).address ≡ w
 line_address w nid o = ap (λ (l : Line). l.address) (line_for w w nid o)
 
 -- a word before a run of words
@@ -74,17 +73,17 @@ set_ends ws i a b c d e x y =
     ap (λ (m : List ℕ). set m (i + 4) y) (set_before (b ∷ c ∷ d ∷ e ∷ []) (set ws i a) (suc i) i x (omega arith) ∙ ap (λ (m : List ℕ). sets m (suc i) (b ∷ c ∷ d ∷ e ∷ [])) (set-set ws i a x))
     ∙ rw fifth (set-set (sets (set ws i x) (suc i) (b ∷ c ∷ d ∷ [])) _ e y)
 
-mark_put : (h a : ℕ) → address_mark_in h ≡ 0 → with_mark h ≡ marked h (Address a)
+mark_put : (h a : ℕ) → address_mark_in h ≡ 0 → with_mark h ≡ marked h (Some a)
 mark_put h a none = rw (eq-eqb (h / 268435456 % 2) 0 (omega arith))
 
 five_addressed : (ws : List ℕ) (i h b c d e a : ℕ) → i + 5 ≤ length ws → address_mark_in h ≡ 0
-    → with_address (sets ws i (h ∷ b ∷ c ∷ d ∷ e ∷ [])) i a ≡ sets ws i (marked h (Address a) ∷ b ∷ c ∷ d ∷ a ∷ [])
+    → with_address (sets ws i (h ∷ b ∷ c ∷ d ∷ e ∷ [])) i a ≡ sets ws i (marked h (Some a) ∷ b ∷ c ∷ d ∷ a ∷ [])
 five_addressed ws i h b c d e a room none =
     let first : get_or (sets ws i (h ∷ b ∷ c ∷ d ∷ e ∷ [])) i 0 ≡ h = rw add-zero at (within (h ∷ b ∷ c ∷ d ∷ e ∷ []) ws i 0 (omega arith) room) in
     ap (λ (x : ℕ). set (set (sets ws i (h ∷ b ∷ c ∷ d ∷ e ∷ [])) i x) (i + 4) a) (ap with_mark first ∙ mark_put h a none)
     ∙ set_ends ws i h b c d e _ a
 
-pub put_addressed : (ws : List ℕ) (p : ℕ) (l : Line) (a : ℕ) → holds ws p ≡ true → with_address (put_at ws p (for NoAddress l)) (words_for p) a ≡ put_at ws p (for (Address a) l)
+pub put_addressed : (ws : List ℕ) (p : ℕ) (l : Line) (a : ℕ) → holds ws p ≡ true → with_address (put_at ws p (for None l)) (words_for p) a ≡ put_at ws p (for (Some a) l)
 put_addressed ws p l a there =
     let room : p < capacity (length ws) = ltb-true _ _ there in
     let init : ℕ = cond (eqb l.kind 19) l.imm 0 in
@@ -118,13 +117,13 @@ lines_after ws p (suc n) q l a h = rw (lines_after ws p n q l a (omega arith), p
     go false = refl
 
 -- the n lines from place p on have the address, and one more is put
-pub address_put : (ws : List ℕ) (p n nid : ℕ) (o : Op ℕ) (a : ℕ) → holds ws (p + n) ≡ true → address_lines (put_at ws (p + n) (line_of NoAddress nid o)) p (n + 1) a ≡ put_at (address_lines ws p n a) (p + n) (line_of (Address a) nid o)
+pub address_put : (ws : List ℕ) (p n nid : ℕ) (o : Op ℕ) (a : ℕ) → holds ws (p + n) ≡ true → address_lines (put_at ws (p + n) (line_of None nid o)) p (n + 1) a ≡ put_at (address_lines ws p n a) (p + n) (line_of (Some a) nid o)
 unfolding address_lines
 address_put ws p n nid o a there =
     let us : List ℕ = address_lines ws p n a in
     let there' : holds us (p + n) ≡ true = rw (addressed_length ws p n a) there in
-    rw (add-one, lines_after ws p n (p + n) (line_of NoAddress nid o) a (omega arith), put_length us (p + n) (line_of NoAddress nid o), there', line_for NoAddress NoAddress nid o, line_for (Address a) NoAddress nid o)
-    (rw there' at (put_addressed us (p + n) (line_of NoAddress nid o) a there'))
+    rw (add-one, lines_after ws p n (p + n) (line_of None nid o) a (omega arith), put_length us (p + n) (line_of None nid o), there', line_for None None nid o, line_for (Some a) None nid o)
+    (rw there' at (put_addressed us (p + n) (line_of None nid o) a there'))
 
 -- one more, where the words hold it, and none past them
 pub address_one : (ws : List ℕ) (p q a : ℕ) → p ≤ q → q < capacity (length ws) → with_address (address_lines ws p (q - p) a) (words_for q) a ≡ address_lines ws p (suc q - p) a

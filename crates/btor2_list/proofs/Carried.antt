@@ -1,26 +1,29 @@
 -- The sort that a record carries, where the kind's sort is the record's own. Assumes nothing.
-use Prim.Native.Nat.{ℕ}
-use mathlib.Core.Path.{◌≡◌, refl, sym}
-use mathlib.Core.Bool.{Bool, true, false, cond}
+use Rattle.std.specs.Prelude.{Option, Some, None}
+use Prim.Native.Nat.{◌≤◌}
+use native.Mathlib.Omega.{arith}
+use Rattle.std.proofs.lemmas.Bool.Decides.{nat_tests}
+use Rattle.btor2.specs.Sort.{sort_numbered}
+use Rattle.btor2_list.specs.declared.Line.{Line}
+use mathlib.Core.Path.{◌≡◌}
 use Rattle.btor2.specs.declared.NodeType.{NodeType}
-use Rattle.btor2.specs.declared.MaybeSort.{MaybeSort}
-use Rattle.btor2.specs.declared.MaybeSort.TheVariants.{Sort, NoSort}
-use Rattle.btor2.specs.Op.{Op, carried}
-use Rattle.btor2_list.specs.Node.{with_sort}
+use Rattle.btor2.specs.Op.{carried}
+use Rattle.btor2_list.specs.Node.{operator_at, operators_by_kind, op_of}
 
--- a number's sort m is the sort that is carried
-pub own : (m : MaybeSort) (f : NodeType → Op ℕ) → ((s : NodeType) → carried (f s) ≡ Sort s) → m ≡ carried (with_sort m f)
-unfolding carried
-own (Sort s) f h = sym (h s)
-own NoSort f h = refl
+-- the record's own sort m, where its kind is one of those whose sort is the record's
+module _ (l : Line) (from : (l.kind ≡ 1 → ⊥) → (l.kind ≡ 14 → ⊥) → (l.kind ≡ 21 → ⊥) → 16 ≤ l.kind) (to : (l.kind ≡ 21 → ⊥) → l.kind ≤ 19) where
+  known : (s : NodeType) → Some s ≡ carried (operator_at (operators_by_kind (Some s) l) 1 l.kind)
+  unfolding carried
+  known s = grind (arith, nat_tests)
 
--- none is carried, whatever the sort is
-pub carries_none : (m : MaybeSort) (f : NodeType → Op ℕ) → ((s : NodeType) → carried (f s) ≡ NoSort) → NoSort ≡ carried (with_sort m f)
-unfolding carried
-carries_none (Sort s) f h = sym (h s)
-carries_none NoSort f h = refl
+  not_known : None ≡ carried (operator_at (operators_by_kind None l) 1 l.kind)
+  unfolding carried
+  not_known = grind (arith, nat_tests)
 
--- whichever of two lines it is
-pub either_sort : (s : NodeType) (t : Bool) (o p : Op ℕ) → carried o ≡ Sort s → carried p ≡ Sort s → carried (cond t o p) ≡ Sort s
-either_sort s true o p e f = e
-either_sort s false o p e f = f
+  pub own : sort_numbered l.sort ≡ carried (op_of l)
+  unfolding op_of
+  own = go (sort_numbered l.sort)
+    where
+      go : (m : Option NodeType) → m ≡ carried (operator_at (operators_by_kind m l) 1 l.kind)
+      go (Some s) = known s
+      go None = not_known

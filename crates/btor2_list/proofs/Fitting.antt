@@ -1,4 +1,5 @@
 -- The record of a line fits its fields, where the line's identifier and the area of its name do. Assumes nothing.
+use Rattle.std.specs.Prelude.{Option}
 use Prim.Native.Nat.{ℕ, ◌^◌, ◌<◌}
 use mathlib.Core.Path.{◌≡◌}
 use mathlib.Core.Bool.{Bool, true}
@@ -7,7 +8,6 @@ use borrow.Author.Tests.{ltb-true}
 use lib.Dec.{ltb}
 use Rattle.btor2.specs.declared.Name.{Name}
 use Rattle.btor2.specs.Op.{Op, const, read, write, bin, uext, ite, eq, and, or, not, state, state_init, next, input, bad, unknown}
-use Rattle.btor2_list.specs.declared.MaybeAddress.{MaybeAddress}
 use Rattle.btor2_list.specs.Node.{no_name, row, line_of}
 use Rattle.btor2_list.proofs.Stored.{LineFits}
 
@@ -30,7 +30,7 @@ area_fits (input s m) = ltb m.area 256
 area_fits (bad a m) = ltb m.area 256
 area_fits unknown = true
 
-module _ (address : MaybeAddress) (nid : ℕ) (h : nid < 2 ^ 32) where
+module _ (address : Option ℕ) (nid : ℕ) (h : nid < 2 ^ 32) where
   nameless : {kind sort a b c imm : ℕ} → LineFits (row address nid kind sort a b c imm no_name)
   nameless = record { nid = omega arith; area = omega arith }
 

@@ -7,5 +7,7 @@ pub mod Seen
 pub mod Records
 pub mod Got
 pub mod Addressed
+mod Words
+mod Marked
 mod Init
 mod Sorted

@@ -1,4 +1,5 @@
 -- The kinds that have a sort of their own, apart from those whose sort is fixed. Assumes nothing.
+use Rattle.std.specs.Prelude.{Some, None}
 use Prim.Native.Nat.{ℕ, zero, suc}
 use mathlib.Core.Path.{◌≡◌, refl, ◌∙◌}
 use mathlib.Core.Bool.{Bool, true, false, cond}
@@ -7,7 +8,6 @@ use lib.Dec.{T, eqb}
 use lib.ListN.{replicate}
 use Rattle.bitvec.proofs.LastArm.{NoneOf, among, differs}
 use Rattle.btor2.specs.declared.NodeType.{NodeType}
-use Rattle.btor2.specs.declared.MaybeSort.TheVariants.{Sort, NoSort}
 use Rattle.btor2.specs.Op.{unknown}
 use Rattle.btor2_list.specs.declared.Line.{Line}
 use Rattle.btor2_list.specs.Kinds.{const_kind, read_kind, write_kind, add_kind, sub_kind, mul_kind, udiv_kind, sdiv_kind, urem_kind, sll_kind, srl_kind, ult_kind, uext_kind, ite_kind, eq_kind, and_kind, or_kind, not_kind, state_kind, next_kind, input_kind, bad_kind}
@@ -37,12 +37,12 @@ module _ (l : Line) where
       let not : (n : ℕ) → T (among n fixed_kinds) → eqb l.kind n ≡ false = differs fixed_kinds l.kind none in
       rw (not read_kind tt, not write_kind tt, not add_kind tt, not sub_kind tt, not mul_kind tt, not udiv_kind tt, not sdiv_kind tt, not urem_kind tt, not sll_kind tt, not srl_kind tt, not ult_kind tt, not eq_kind tt, not bad_kind tt)
 
-  pub no_sort_lem : sorted_op NoSort l ≡ unknown
+  pub no_sort_lem : sorted_op None l ≡ unknown
   no_sort_lem = nothing_known 21 1 l.kind
 
-  pub no_sorted_kind : (s : NodeType) → NoneOf sorted_kinds l.kind → sorted_op (Sort s) l ≡ unknown
+  pub no_sorted_kind : (s : NodeType) → NoneOf sorted_kinds l.kind → sorted_op (Some s) l ≡ unknown
   no_sorted_kind s none =
       let not : (n : ℕ) → T (among n sorted_kinds) → eqb l.kind n ≡ false = differs sorted_kinds l.kind none in
-      let same : sorted_op (Sort s) l ≡ operator_at (replicate 21 unknown) 1 l.kind =
+      let same : sorted_op (Some s) l ≡ operator_at (replicate 21 unknown) 1 l.kind =
       rw (not const_kind tt, not uext_kind tt, not ite_kind tt, not and_kind tt, not or_kind tt, not not_kind tt, not state_kind tt, not next_kind tt, not input_kind tt) in
       same ∙ nothing_known 21 1 l.kind

@@ -1,4 +1,5 @@
 -- A record that is put at a place is read there, and every other word is as it was. Assumes nothing.
+use Rattle.std.specs.Prelude.{Option, None, Some}
 use Prim.Native.Nat.{ℕ, zero, suc, ◌+◌, ◌*◌, ◌≤◌, ◌<◌}
 use mathlib.Core.Path.{◌≡◌, refl, sym, ap, ◌∙◌}
 use mathlib.Core.Bool.{Bool, true, false, cond, ◌||◌}
@@ -13,13 +14,9 @@ use lib.Seq.{sets, length-sets, get_or-set_same, get_or-set_other}
 use Rattle.bitvec.proofs.Truth.{neither}
 use Rattle.bitvec.proofs.Base.{by_le}
 use Rattle.btor2.specs.declared.NodeType.{NodeType}
-use Rattle.btor2.specs.declared.MaybeSort.{MaybeSort}
-use Rattle.btor2.specs.declared.MaybeSort.TheVariants.{NoSort}
 use Rattle.btor2.specs.Sort.{sort_number, first_numbered, sorts, sort_numbered}
 use Rattle.btor2.proofs.Sort.{number_small}
 use Rattle.btor2_list.specs.declared.Line.{Line}
-use Rattle.btor2_list.specs.declared.MaybeAddress.{MaybeAddress}
-use Rattle.btor2_list.specs.declared.MaybeAddress.TheVariants.{Address, NoAddress}
 use Rattle.btor2_list.specs.Record.{stride, kind_in, sort_in, area_in, init_in, address_mark_in, nid_in, saturated, most_in_byte, most_in_nid, mark, head_of, address_mark, marked, address_word, address_by, has_name, words, word, record_at, holds, put_at, capacity, words_for}
 use Rattle.btor2_list.specs.Node.{node, operator_at, operators_by_kind, op_of, node_of}
 use Rattle.btor2_list.proofs.NoKind.{outside}
@@ -73,24 +70,24 @@ record Back (k s a i m n head : ℕ) : Type 0 where
 fields_back : (k s a i m n : ℕ) → k < 256 → s < 256 → a < 256 → i < 16 → m < 16 → Back k s a i m n (k + 256 * s + 65536 * a + 16777216 * i + 4294967296 * n + 268435456 * m)
 fields_back k s a i m n hk hs ha hi hm = record { kind = omega arith; sort = omega arith; area = omega arith; init = omega arith; address = omega arith; nid = omega arith }
 
-mark_small : (w : MaybeAddress) → address_mark w < 16
-mark_small (Address a) = omega arith
-mark_small NoAddress = omega arith
+mark_small : (w : Option ℕ) → address_mark w < 16
+mark_small (Some a) = omega arith
+mark_small None = omega arith
 
-head_back : (k s a i n : ℕ) (w : MaybeAddress) → Back (saturated most_in_byte k) (saturated most_in_byte s) (saturated most_in_byte a) (saturated mark i) (address_mark w) (saturated most_in_nid n) (marked (head_of k s a i n) w)
+head_back : (k s a i n : ℕ) (w : Option ℕ) → Back (saturated most_in_byte k) (saturated most_in_byte s) (saturated most_in_byte a) (saturated mark i) (address_mark w) (saturated most_in_nid n) (marked (head_of k s a i n) w)
 head_back k s a i n w =
     fields_back (saturated most_in_byte k) (saturated most_in_byte s) (saturated most_in_byte a) (saturated mark i) (address_mark w) (saturated most_in_nid n)
     (omega (arith, at_most most_in_byte k)) (omega (arith, at_most most_in_byte s)) (omega (arith, at_most most_in_byte a)) (omega (arith, at_most mark i)) (mark_small w)
 
 -- a first word that is made has no mark yet
 pub no_mark : (k s a i n : ℕ) → address_mark_in (head_of k s a i n) ≡ 0
-no_mark k s a i n = rw (add-zero (head_of k s a i n)) at (head_back k s a i n NoAddress).address
+no_mark k s a i n = rw (add-zero (head_of k s a i n)) at (head_back k s a i n None).address
 
-address_back : (w : MaybeAddress) → address_by (address_mark w) (address_word w) ≡ w
-address_back (Address a) = refl
-address_back NoAddress = refl
+address_back : (w : Option ℕ) → address_by (address_mark w) (address_word w) ≡ w
+address_back (Some a) = refl
+address_back None = refl
 
-no_sort_lem : (ss : List NodeType) (n : ℕ) → 17 < n → first_numbered ss n ≡ NoSort
+no_sort_lem : (ss : List NodeType) (n : ℕ) → 17 < n → first_numbered ss n ≡ None
 no_sort_lem [] n h = refl
 no_sort_lem (s ∷ ss) n h = rw (ne_eqb n (sort_number s) (λ e. omega (arith, number_small s))) (no_sort_lem ss n h)
 
@@ -157,7 +154,7 @@ module _ (l : Line) (fits : LineFits l) where
 
   of_a_sort : (k : ℕ) → node_of (read k (saturated most_in_byte l.sort)) ≡ node_of (read k l.sort)
   unfolding op_of
-  of_a_sort k = ap (λ (s : MaybeSort). node l.address l.nid.0 (operator_at (operators_by_kind s (read k l.sort)) 1 k)) (any_sort l.sort)
+  of_a_sort k = ap (λ (s : Option NodeType). node l.address l.nid.0 (operator_at (operators_by_kind s (read k l.sort)) 1 k)) (any_sort l.sort)
 
   of_no_kind : 256 ≤ l.kind → node_of (read (saturated most_in_byte l.kind) l.sort) ≡ node_of l
   of_no_kind h = rw (lt-ltb most_in_byte l.kind h, outside l (λ _. omega arith), outside (read most_in_byte l.sort) (λ _. omega arith))

@@ -1,5 +1,6 @@
 -- The view of the lent words: a put after the last line adds that line and changes no other, and reading what was written gives it
 -- back. Assumes nothing.
+use Rattle.std.specs.Prelude.{Option}
 use Prim.Native.Nat.{ℕ, zero, suc, ◌+◌, ◌≤◌, ◌<◌}
 use mathlib.Core.Path.{◌≡◌, refl, ◌∙◌, ap, ap₂}
 use mathlib.Core.Bool.{true}
@@ -13,7 +14,6 @@ use lib.Seq.{get_or-append-add, get_or-take, length-take-le}
 use Rattle.btor2.specs.Op.{add, sub, mul, udiv, sdiv, urem, sll, srl, ult, Op, const, read, write, bin, uext, ite, eq, and, or, not, state, state_init, next, input, bad, unknown}
 use Rattle.btor2.proofs.Sort.{sort_back}
 use Rattle.btor2_list.specs.declared.Line.{Line}
-use Rattle.btor2_list.specs.declared.MaybeAddress.{MaybeAddress}
 use Rattle.btor2_list.specs.Record.{record_at, holds, put_at, capacity, words_for}
 use Rattle.btor2_list.specs.Node.{Node, node, line_of, op_of, node_of}
 use Rattle.btor2_list.specs.View.{view}
@@ -21,7 +21,7 @@ use Rattle.btor2_list.proofs.Stored.{LineFits, same_words, put_node, put_other}
 
 -- ---- a line that is written is read as itself
 
-pub node_back : (address : MaybeAddress) (nid : ℕ) (o : Op ℕ) → node_of (line_of address nid o) ≡ node address nid o
+pub node_back : (address : Option ℕ) (nid : ℕ) (o : Op ℕ) → node_of (line_of address nid o) ≡ node address nid o
 unfolding op_of
 node_back address nid (const s n) = rw sort_back
 node_back address nid (read m a) = refl

@@ -1,18 +1,18 @@
 -- What only private contracts cite.
-use Rattle.std.specs.Prelude.{ℕ, cond, List, [], ◌∷◌, ◌++◌, eqb, replicate}
-use Rattle.btor2.specs.declared.MaybeSort.{MaybeSort}
+use Rattle.std.specs.Prelude.{◌≡◌, ℕ, ◌<◌, true, cond, List, [], ◌∷◌, ◌++◌, eqb, replicate, Option, None}
+use Rattle.btor2.specs.declared.NodeType.{NodeType}
 use Rattle.btor2.specs.Op.{Op, const, uext, ite, and, or, not, state, state_init, next, input, unknown}
 use Rattle.btor2_list.specs.declared.Line.{Line}
-use Rattle.btor2_list.specs.declared.MaybeAddress.TheVariants.{NoAddress}
 use Rattle.btor2_list.specs.Kinds.{const_kind}
+use Rattle.btor2_list.specs.Record.{stride, word, holds}
 use Rattle.btor2_list.specs.Node.{operator_at, with_sort}
 
 -- a record without its address
 abbrev pub unaddressed : Line → Line
-unaddressed l = record { nid = l.nid; kind = l.kind; sort = l.sort; op1 = l.op1; op2 = l.op2; op3 = l.op3; imm = l.imm; name = l.name; address = NoAddress }
+unaddressed l = record { nid = l.nid; kind = l.kind; sort = l.sort; op1 = l.op1; op2 = l.op2; op3 = l.op3; imm = l.imm; name = l.name; address = None }
 
 -- what a record says of the kinds that have a sort of their own, s; the others, the eleven from read to ult, and eq and bad, are unknown
-abbrev pub sorted_by_kind : MaybeSort → Line → List (Op ℕ)
+abbrev pub sorted_by_kind : Option NodeType → Line → List (Op ℕ)
 sorted_by_kind s l =
     let a = l.op1.0 in
     let b = l.op2.0 in
@@ -30,5 +30,10 @@ sorted_by_kind s l =
     ∷ sorted (λ s. input s l.name)
     ∷ [])
 
-abbrev pub sorted_op : MaybeSort → Line → Op ℕ
+abbrev pub sorted_op : Option NodeType → Line → Op ℕ
 sorted_op s l = operator_at (sorted_by_kind s l) const_kind l.kind
+
+-- the words are those of the record at place p, which the list's words reach over
+pub record IsRecord (ws : List ℕ) (p : ℕ) (record-words : List ℕ) : Type 0 where
+  pub there : holds ws p ≡ true
+  pub same : (k : ℕ) → k < stride → word ws p k ≡ word record-words 0 k

@@ -1,27 +1,23 @@
 -- What a record says: a line's identifier, its operator, whose operands are places, and the address of its instruction, if it has one.
-use Rattle.std.specs.Prelude.{ℕ, cond, List, [], ◌∷◌, eqb}
+use Rattle.std.specs.Prelude.{ℕ, cond, List, [], ◌∷◌, eqb, Option, Some, None}
 use Rattle.btor2.specs.declared.Name.{Name}
 use Rattle.btor2.specs.declared.NodeType.{NodeType}
-use Rattle.btor2.specs.declared.MaybeSort.{MaybeSort}
-use Rattle.btor2.specs.declared.MaybeSort.TheVariants.{Sort, NoSort}
 use Rattle.btor2.specs.Sort.{sort_number, sort_numbered}
 use Rattle.btor2.specs.Op.{Bin, add, sub, mul, udiv, sdiv, urem, sll, srl, ult, Op, const, read, write, bin, uext, ite, eq, and, or, not, state, state_init, next, input, bad, unknown, bin_sort}
 use Rattle.btor2_list.specs.Kinds.{const_kind, read_kind, write_kind, add_kind, sub_kind, mul_kind, udiv_kind, sdiv_kind, urem_kind, sll_kind, srl_kind, ult_kind, uext_kind, ite_kind, eq_kind, and_kind, or_kind, not_kind, state_kind, next_kind, input_kind, bad_kind}
 use Rattle.btor2_list.specs.declared.Line.{Line}
-use Rattle.btor2_list.specs.declared.MaybeAddress.{MaybeAddress}
-use Rattle.btor2_list.specs.declared.MaybeAddress.TheVariants.{NoAddress}
 
 pub record Node : Type 0 where
   pub nid : ℕ
   pub op : Op ℕ
-  pub address : MaybeAddress
+  pub address : Option ℕ
 
-abbrev pub node : MaybeAddress → ℕ → Op ℕ → Node
+abbrev pub node : Option ℕ → ℕ → Op ℕ → Node
 node address nid o = record { nid = nid; op = o; address = address }
 
 -- where there is no line
 abbrev pub no_node : Node
-no_node = node NoAddress 0 unknown
+no_node = node None 0 unknown
 
 -- ---- the record that is written for a line
 
@@ -30,7 +26,7 @@ no_name = record { area = 0; at = 0; len = 0 }
 
 -- the address of its instruction, if it has one, then the fields in their order: identifier, kind, sort as printed (for uext the one it extends from),
 -- operands, constant, name
-abbrev pub row : MaybeAddress → ℕ → ℕ → ℕ → ℕ → ℕ → ℕ → ℕ → Name → Line
+abbrev pub row : Option ℕ → ℕ → ℕ → ℕ → ℕ → ℕ → ℕ → ℕ → Name → Line
 row address nid kind sort op1 op2 op3 imm name = record {
   nid = record { 0 = nid };
   kind = kind;
@@ -54,7 +50,7 @@ bin_kind sll = sll_kind
 bin_kind srl = srl_kind
 bin_kind ult = ult_kind
 
-abbrev pub line_of : MaybeAddress → ℕ → Op ℕ → Line
+abbrev pub line_of : Option ℕ → ℕ → Op ℕ → Line
 line_of address nid (const s n) = row address nid const_kind (sort_number s) 0 0 0 n no_name
 line_of address nid (read m a) = row address nid read_kind 2 m a 0 0 no_name
 line_of address nid (write m a v) = row address nid write_kind 3 m a v 0 no_name
@@ -79,12 +75,12 @@ abbrev pub operator_at : List (Op ℕ) → ℕ → ℕ → Op ℕ
 operator_at [] from n = unknown
 operator_at (o ∷ os) from n = cond (eqb n from) o (operator_at os (ℕ.suc from) n)
 
-abbrev pub with_sort : MaybeSort → (NodeType → Op ℕ) → Op ℕ
-with_sort (Sort s) f = f s
-with_sort NoSort f = unknown
+abbrev pub with_sort : Option NodeType → (NodeType → Op ℕ) → Op ℕ
+with_sort (Some s) f = f s
+with_sort None f = unknown
 
 -- what a record of each kind says, where its sort is s; the fields that a kind does not use are not looked at
-abbrev pub operators_by_kind : MaybeSort → Line → List (Op ℕ)
+abbrev pub operators_by_kind : Option NodeType → Line → List (Op ℕ)
 operators_by_kind s l =
     let a = l.op1.0 in
     let b = l.op2.0 in

@@ -1,12 +1,8 @@
 -- The lent words: records of five words, one after the other.
-use Rattle.std.specs.Prelude.{ℕ, zero, suc, ◌+◌, ◌*◌, ◌/◌, ◌%◌, ◌^◌, ◌-◌, min, Bool, cond, ◌||◌, List, [], ◌∷◌, ltb, eqb, length, get_or, set, take}
+use Rattle.std.specs.Prelude.{ℕ, zero, suc, ◌+◌, ◌*◌, ◌/◌, ◌%◌, ◌^◌, ◌-◌, min, Bool, cond, ◌||◌, List, [], ◌∷◌, ltb, eqb, length, get_or, set, take, Option, Some, None}
 use Rattle.std.proofs.lemmas.List.Edits.{sets}
 use Rattle.btor2_list.specs.Kinds.{const_kind, state_kind, input_kind, bad_kind}
 use Rattle.btor2_list.specs.declared.Line.{Line}
-use Rattle.btor2_list.specs.declared.MaybeAddress.{MaybeAddress}
-use Rattle.btor2_list.specs.declared.MaybeAddress.TheVariants.{Address, NoAddress}
-use Rattle.btor2_list.specs.declared.Found.{Found}
-use Rattle.btor2_list.specs.declared.Found.TheVariants.{Line as at, Outside}
 
 -- the words of one record
 abbrev pub stride : ℕ
@@ -71,19 +67,19 @@ head_of kind sort area init nid =
 -- ---- the address that a line was lowered for: "the address [..], or a mark that it came with the start or from the joining of edges" (document
 -- 02, R-3). Where there is none, the last word is 0 when we write it, and it is not looked at.
 
-abbrev pub address_mark : MaybeAddress → ℕ
-address_mark (Address a) = mark
-address_mark NoAddress = 0
+abbrev pub address_mark : Option ℕ → ℕ
+address_mark (Some a) = mark
+address_mark None = 0
 
-abbrev pub marked : ℕ → MaybeAddress → ℕ
+abbrev pub marked : ℕ → Option ℕ → ℕ
 marked head address = head + address_unit * address_mark address
 
-abbrev pub address_word : MaybeAddress → ℕ
-address_word (Address a) = a
-address_word NoAddress = 0
+abbrev pub address_word : Option ℕ → ℕ
+address_word (Some a) = a
+address_word None = 0
 
-abbrev pub address_by : ℕ → ℕ → MaybeAddress
-address_by m a = cond (eqb m 0) NoAddress (Address a)
+abbrev pub address_by : ℕ → ℕ → Option ℕ
+address_by m a = cond (eqb m 0) None (Some a)
 
 -- ---- the words between: operands. A Const has none, and its value stands in the first's place; State, Input and Bad have no second and third,
 -- and the place and the length of their name stand there.
@@ -126,8 +122,8 @@ abbrev pub put_at : List ℕ → ℕ → Line → List ℕ
 put_at ws p l = cond (holds ws p) (sets ws (words_for p) (words l)) ws
 
 -- the record at place p, and one field of it, 0 where there is none
-abbrev pub get_at : List ℕ → ℕ → Found
-get_at ws p = cond (holds ws p) (at (record_at ws p)) Outside
+abbrev pub get_at : List ℕ → ℕ → Option Line
+get_at ws p = cond (holds ws p) (Some (record_at ws p)) None
 
 abbrev pub field_at : (Line → ℕ) → List ℕ → ℕ → ℕ
 field_at field ws p = cond (holds ws p) (field (record_at ws p)) 0

@@ -1,5 +1,5 @@
 // The bytes of a name, in the host's area or in ours.
-ghost use Rattle.std.specs.Prelude.{◌≡◌};
+ghost use Rattle.std.specs.Prelude.{◌≡◌, [], MatchOption};
 ghost use Rattle.btor2_list.specs.NameBytes.{name_bytes, part_of};
 
 use btor2::Name;
@@ -14,28 +14,18 @@ pub const OUR_AREA: u64 = 2;
 pub fn name_bytes<'a>(host: &'a [u8], ours: &'a [u8], name: Name) -> &'a [u8]
     ensures { result.now ≡ name_bytes host.now ours.now name }
 {
-    let area = name.area;
-    let at = name.at as usize;
-    let len = name.len as usize;
-    if area == HOST_AREA {
-        return part_or(host, host, at, len);
-    }
-    if area == OUR_AREA {
-        return part_or(ours, host, at, len);
-    }
-    &host[0..0]
+    let part = match name.area {
+        HOST_AREA => part_of(host, name),
+        OUR_AREA => part_of(ours, name),
+        _ => None,
+    };
+    part.unwrap_or(&host[..0])
 }
 
-// The part of `s` from `at` on, `len` bytes long, or the first 0 bytes of `host` where it does not lie within `s`.
-fn part_or<'a>(s: &'a [u8], host: &'a [u8], at: usize, len: usize) -> &'a [u8]
-    ensures { result.now ≡ part_of s.now at len }
+// The part of an area where the bytes of a name lie, if they lie within it.
+fn part_of<'a>(area: &'a [u8], name: Name) -> Option<&'a [u8]>
+    ensures { MatchOption result (part_of area.now name.at name.len ≡ []) (λ part. part.now ≡ part_of area.now name.at name.len) }
 {
-    if s.len() < at {
-        return &host[0..0];
-    }
-    if s.len() - at < len {
-        return &host[0..0];
-    }
-    let e = at + len;
-    &s[at..e]
+    let rest = area.get(name.at as usize..)?;
+    rest.get(..name.len as usize)
 }

@@ -1,8 +1,6 @@
 // What a record says, with the fields that its kind uses.
-ghost use Rattle.std.specs.Prelude.{◌≡◌, cond, not, eqb};
-ghost use Rattle.btor2.specs.declared.MaybeSort.TheVariants.{Sort};
+ghost use Rattle.std.specs.Prelude.{◌≡◌, not, Some};
 ghost use Rattle.btor2.specs.Sort.{sort_numbered};
-ghost use Rattle.btor2.specs.Op.{state as state_op, state_init};
 ghost use Rattle.btor2_list.specs.declared.Line.{Line};
 ghost use Rattle.btor2_list.specs.Node.{op_of};
 ghost use Rattle.btor2_list.specs.Operator.{op_from};
@@ -12,7 +10,7 @@ use crate::{
     ADD, AND, BAD, CONST, DIV, DIVU, EQ, EXT, INPUT, ITE, Line, MUL, NEXT, NOT, OR, READ, REM, SLL,
     SRL, STATE, SUB, ULT, WRITE,
 };
-use btor2::{MaybeSort, Name, NodeRef, NodeType, sort_of};
+use btor2::{Name, NodeRef, NodeType, sort_of};
 
 // The operators on two words.
 #[derive(Clone, Copy)]
@@ -51,6 +49,7 @@ pub enum LineOperator {
 }
 
 // What a record says. The kinds whose sort is fixed come first; of these the sort field is not looked at.
+#[tactic(auto, using(std::proofs::lemmas::Bool::Decides::nat_tests), unfolding(crate::specs::Node::op_of))]
 pub fn operator_of(line: Line) -> LineOperator
     ensures { op_from result ≡ op_of line }
 {
@@ -58,8 +57,7 @@ pub fn operator_of(line: Line) -> LineOperator
     let b = line.op2;
     let c = line.op3;
     let name = line.name;
-    let kind = line.kind;
-    match kind {
+    match line.kind {
         READ => LineOperator::Read(a, b),
         WRITE => LineOperator::Write(a, b, c),
         ADD => LineOperator::Binary(Bin::Add, a, b),
@@ -82,39 +80,31 @@ fn by_sort(line: Line) -> LineOperator
     ensures { op_from result ≡ sorted_op (sort_numbered line.sort) line }
 {
     match sort_of(line.sort) {
-        MaybeSort::Sort(s) => with_sort(line, s),
-        MaybeSort::NoSort => LineOperator::Unknown,
+        Some(s) => with_sort(line, s),
+        None => LineOperator::Unknown,
     }
 }
 
+// A State has an init where its constant is not 0.
+#[tactic(auto, using(std::proofs::lemmas::Bool::Decides::nat_tests))]
 fn with_sort(line: Line, s: NodeType) -> LineOperator
-    ensures { op_from result ≡ sorted_op (Sort s) line }
+    ensures { op_from result ≡ sorted_op (Some s) line }
 {
     let a = line.op1;
     let b = line.op2;
     let c = line.op3;
     let name = line.name;
-    let kind = line.kind;
-    match kind {
+    match line.kind {
         CONST => LineOperator::Const(s, line.imm),
         EXT => LineOperator::Ext(s, a),
         ITE => LineOperator::Ite(s, a, b, c),
         AND => LineOperator::And(s, a, b),
         OR => LineOperator::Or(s, a, b),
         NOT => LineOperator::Not(s, a),
-        STATE => state(s, line.imm, a, name),
+        STATE if line.imm == 0 => LineOperator::State(s, name),
+        STATE => LineOperator::StateInit(s, a, name),
         NEXT => LineOperator::Next(s, a, b),
         INPUT => LineOperator::Input(s, name),
         _ => LineOperator::Unknown,
     }
-}
-
-// A State, with an init where the constant is not 0.
-fn state(s: NodeType, imm: u64, init: NodeRef, name: Name) -> LineOperator
-    ensures { op_from result ≡ cond (eqb imm 0) (state_op s name) (state_init s init.0 name) }
-{
-    if imm == 0 {
-        return LineOperator::State(s, name);
-    }
-    LineOperator::StateInit(s, init, name)
 }

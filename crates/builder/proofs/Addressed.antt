@@ -1,8 +1,6 @@
 -- A program that is run without an address, and its lines given one afterwards, is the program run with that address. Assumes nothing.
-use Rattle.std.proofs.Common.{◌≡◌, ℕ, ◌+◌, ◌-◌, ◌%◌, ◌^◌, Bool, true, false, List, sym, refl, ap, ◌∙◌, arith}
+use Rattle.std.proofs.Common.{◌≡◌, ℕ, ◌+◌, ◌-◌, ◌%◌, ◌^◌, Bool, true, false, List, sym, refl, ap, ◌∙◌, arith, Option, Some, None}
 use Rattle.btor2.specs.Op.{Op, identifiers}
-use Rattle.btor2_list.specs.declared.MaybeAddress.{MaybeAddress}
-use Rattle.btor2_list.specs.declared.MaybeAddress.TheVariants.{Address, NoAddress}
 use Rattle.btor2_list.specs.Record.{holds, put_at, address_lines}
 use Rattle.btor2_list.specs.Node.{Node, line_of}
 use Rattle.btor2_list.proofs.View.{node_back}
@@ -17,7 +15,7 @@ use Rattle.builder.specs.Append.{Store, at, append_line, append_for, append, run
 abbrev next : Tally → Op ℕ → Tally
 next t o = record { lines = t.lines + 1; nid = (t.nid + identifiers o) % 2 ^ 64 }
 
-module _ (w : MaybeAddress) (ws : List ℕ) (t : Tally) (o : Op ℕ) where
+module _ (w : Option ℕ) (ws : List ℕ) (t : Tally) (o : Op ℕ) where
   there : holds ws t.lines ≡ true → append_for w (at ws t) o ≡ ran (at (put_at ws t.lines (line_of w t.nid o)) (next t o)) t.lines
   unfolding append_line
   there h = rw (h, ap (λ (x : Node). identifiers x.op) (node_back w t.nid o))
@@ -41,7 +39,7 @@ module _ {X : Type 0} (from address : ℕ) where
   without k r = addressed from address (exec append r.state (k r.value))
 
   abbrev with : (ℕ → Prog ℕ X) → Run Store ℕ → Run Store X
-  with k r = exec (append_for (Address address)) r.state (k r.value)
+  with k r = exec (append_for (Some address)) r.state (k r.value)
 
   one_more : (o : Op ℕ) (k : ℕ → Prog ℕ X) (ws : List ℕ) (t : Tally) (n : ℕ) → t.lines ≡ from + n
       → ((ws' : List ℕ) (t' : Tally) (n' : ℕ) → t'.lines ≡ from + n' → Same (k t.lines) ws' t' n') → Same (line o k) ws t n
@@ -53,19 +51,19 @@ module _ {X : Type 0} (from address : ℕ) where
       held : holds vs t.lines ≡ holds ws t.lines
       held = rw (addressed_length ws from n address)
 
-      put : holds ws t.lines ≡ true → address_lines (put_at ws t.lines (line_of NoAddress t.nid o)) from (n + 1) address ≡ put_at vs t.lines (line_of (Address address) t.nid o)
+      put : holds ws t.lines ≡ true → address_lines (put_at ws t.lines (line_of None t.nid o)) from (n + 1) address ≡ put_at vs t.lines (line_of (Some address) t.nid o)
       put h = rw e (address_put ws from n t.nid o address (rw e at h))
 
       go : (b : Bool) → holds ws t.lines ≡ b → Same (line o k) ws t n
       go true h =
-          ap (without k) (there NoAddress ws t o h)
-          ∙ rest (put_at ws t.lines (line_of NoAddress t.nid o)) (next t o) (n + 1) (omega arith)
+          ap (without k) (there None ws t o h)
+          ∙ rest (put_at ws t.lines (line_of None t.nid o)) (next t o) (n + 1) (omega arith)
           ∙ ap (λ (us : List ℕ). with k (ran (at us (next t o)) t.lines)) (put h)
-          ∙ sym (ap (with k) (there (Address address) vs t o (held ∙ h)))
+          ∙ sym (ap (with k) (there (Some address) vs t o (held ∙ h)))
       go false h =
-          ap (without k) (not_there NoAddress ws t o h)
+          ap (without k) (not_there None ws t o h)
           ∙ rest ws t n e
-          ∙ sym (ap (with k) (not_there (Address address) vs t o (held ∙ h)))
+          ∙ sym (ap (with k) (not_there (Some address) vs t o (held ∙ h)))
 
   same : (p : Prog ℕ X) (ws : List ℕ) (t : Tally) (n : ℕ) → t.lines ≡ from + n → Same p ws t n
   same (done x) ws t n e =

@@ -1,13 +1,10 @@
 -- One more line, where the lent words hold it (unicorn's `add_node`).
-use Rattle.std.specs.Prelude.{ℕ, ◌+◌, ◌%◌, ◌^◌, cond, List}
+use Rattle.std.specs.Prelude.{ℕ, ◌+◌, ◌%◌, ◌^◌, cond, List, Option, Some, None}
 use Rattle.btor2.specs.Op.{Op, identifiers}
 use Rattle.btor2_list.specs.declared.Line.{Line}
-use Rattle.btor2_list.specs.declared.MaybeAddress.{MaybeAddress}
-use Rattle.btor2_list.specs.declared.MaybeAddress.TheVariants.{Address, NoAddress}
 use Rattle.btor2_list.specs.Record.{holds, put_at}
 use Rattle.btor2_list.specs.Node.{line_of, op_of}
 use Rattle.builder.specs.Prog.{Prog, Run, ran, exec}
-use Rattle.builder.specs.declared.Made.{Made}
 use Rattle.builder.specs.declared.Tally.{Tally}
 
 -- the lent words, and the tally
@@ -17,10 +14,6 @@ pub record Store : Type 0 where
 
 abbrev pub at : List ℕ → Tally → Store
 at ws t = record { words = ws; tally = t }
-
--- what a function gave, with the words as it left them; a place is its number
-abbrev pub made : List ℕ → Made → Run Store ℕ
-made ws r = ran (at ws r.tally) r.node.0
 
 -- the tally after one more line
 abbrev pub counted : Tally → Line → Tally
@@ -33,13 +26,13 @@ append_line st l =
     (ran st st.tally.lines)
 
 -- a line under the next identifier, with the address of the instruction that it is lowered for, or without one
-abbrev pub append_for : MaybeAddress → Store → Op ℕ → Run Store ℕ
+abbrev pub append_for : Option ℕ → Store → Op ℕ → Run Store ℕ
 append_for address st o = append_line st (line_of address st.tally.nid o)
 
 abbrev pub append : Store → Op ℕ → Run Store ℕ
-append = append_for NoAddress
+append = append_for None
 
 -- the lines of a program, from these words and this tally, for the instruction at an address: each of them has it (document 02, R-3: "Lowering writes
 -- the current address on each line it appends and on no other")
 abbrev pub run_for : {X : Type 0} → ℕ → List ℕ → Tally → Prog ℕ X → Run Store X
-run_for address ws t p = exec (append_for (Address address)) (at ws t) p
+run_for address ws t p = exec (append_for (Some address)) (at ws t) p

@@ -32,17 +32,23 @@ module _ {A : Type 0} where
   abbrev pub new_eq : A → A → Prog A A
   new_eq left right = emit (eq left right)
 
+  abbrev pub new_and : NodeType → A → A → Prog A A
+  new_and sort left right = emit (and sort left right)
+
   abbrev pub new_and_bit : A → A → Prog A A
-  new_and_bit left right = emit (and Bit left right)
+  new_and_bit = new_and Bit
 
   abbrev pub new_and_word : A → A → Prog A A
-  new_and_word left right = emit (and Word left right)
+  new_and_word = new_and Word
+
+  abbrev pub new_not : NodeType → A → Prog A A
+  new_not sort value = emit (not sort value)
 
   abbrev pub new_not_bit : A → Prog A A
-  new_not_bit value = emit (not Bit value)
+  new_not_bit = new_not Bit
 
   abbrev pub new_not_word : A → Prog A A
-  new_not_word value = emit (not Word value)
+  new_not_word = new_not Word
 
   abbrev pub new_bad : A → Name → Prog A A
   new_bad c name = emit (bad c name)

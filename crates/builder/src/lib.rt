@@ -1,5 +1,5 @@
-// The tally of lines and identifiers, and the append (unicorn's `add_node`). It is total: where the lent words hold no further record it
-// changes nothing.
+// The builder of a list: the lent words with their tally, and the append (unicorn's `add_node`). It is total: where the lent words hold no
+// further record it changes nothing.
 #![tactic(auto)]
 
 mod binary;
@@ -7,18 +7,14 @@ mod lines;
 mod logic;
 mod memory;
 
-ghost use Rattle.std.specs.Prelude.{◌≡◌};
-ghost use Rattle.btor2_list.specs.declared.MaybeAddress.TheVariants.{NoAddress};
-ghost use Rattle.btor2_list.specs.Node.{row};
+ghost use Rattle.std.specs.Prelude.{◌≡◌, None};
+ghost use Rattle.btor2_list.specs.declared.Line.{Line};
+ghost use Rattle.btor2_list.specs.Node.{row, no_name};
 ghost use Rattle.builder.specs.Prog.{ran};
-ghost use Rattle.builder.specs.Append.{append_line, at, made};
+ghost use Rattle.builder.specs.Append.{append_line, at};
 
-pub use binary::new_bin;
 use btor2::{Name, Nid, NodeRef};
-use btor2_list::{Line, MaybeAddress, nids_taken};
-pub use lines::{new_bad, new_const, new_ext, new_ite, new_next, new_state};
-pub use logic::{new_and_bit, new_and_word, new_eq, new_not_bit, new_not_word};
-pub use memory::{new_read, new_write};
+use btor2_list::{Line, nids_taken};
 
 // The count of lines, and the next identifier.
 #[derive(Clone, Copy)]
@@ -27,92 +23,63 @@ pub struct Tally {
     pub nid: u64,
 }
 
-// What an append gives: the tally after it, and the new line's place.
-#[derive(Clone, Copy)]
-pub struct Made {
-    pub tally: Tally,
-    pub node: NodeRef,
+// A list that grows: the words that the host lends, and the tally of the lines in them. Its methods are the `new_*` of unicorn's builder.
+#[derive(Drop)]
+pub struct Builder<'a> {
+    list: &'a mut [u64],
+    tally: Tally,
 }
 
-// The work of the append, with the tally by value: a line of these fields under the next identifier. It has no address: whoever appends lines for an
-// instruction gives them its address once they stand (btor2_list's `address_lines`).
-fn append_line(
-    list: &mut [u64],
-    given: Tally,
-    kind: u64,
-    sort: u64,
-    op1: NodeRef,
-    op2: NodeRef,
-    op3: NodeRef,
-    imm: u64,
-    name: Name,
-) -> Made
-    ensures { made list.new result ≡ append_line (at list.old given) (row NoAddress given.nid kind sort op1.0 op2.0 op3.0 imm name) }
-{
-    let lines = given.lines;
-    let nid = given.nid;
-    let line = Line {
-        nid: Nid(nid),
-        kind,
-        sort,
-        op1,
-        op2,
-        op3,
-        imm,
-        name,
-        address: MaybeAddress::NoAddress,
-    };
-    let taken = nids_taken(line);
-    if btor2_list::put(list, NodeRef(lines), line) {
-        return Made {
-            tally: Tally {
-                lines: lines + 1,
-                nid: std::num::wrapping_add_u64(nid, taken),
+impl<'a> Builder<'a> {
+    pub fn new(list: &'a mut [u64], tally: Tally) -> Builder<'a>
+        ensures same { result.list.ghost_name ≡ list.entry.ghost_name }
+        ensures list { result.list.now ≡ list.old }
+        ensures tally { result.tally ≡ tally }
+    {
+        Builder { list, tally }
+    }
+
+    pub fn tally(&self) -> Tally
+        ensures { result ≡ self.now.tally }
+    {
+        self.tally
+    }
+
+    // A line under the next identifier, whose other fields are 0. It has no address: whoever appends lines for an instruction gives them its address
+    // once they stand (btor2_list's `address_lines`).
+    fn next_line(&self) -> Line
+        ensures { result ≡ row None self.now.tally.nid 0 0 0 0 0 0 no_name }
+    {
+        Line {
+            nid: Nid(self.tally.nid),
+            kind: 0,
+            sort: 0,
+            op1: NodeRef(0),
+            op2: NodeRef(0),
+            op3: NodeRef(0),
+            imm: 0,
+            name: Name {
+                area: 0,
+                at: 0,
+                len: 0,
             },
-            node: NodeRef(lines),
-        };
+            address: None,
+        }
     }
-    Made {
-        tally: given,
-        node: NodeRef(lines),
+
+    // Appends a line, and gives its place.
+    fn add_node(&mut self, line: Line) -> NodeRef
+        ensures run { ran (at self.new.list.now self.new.tally) result.0 ≡ append_line (at self.old.list.now self.old.tally) line }
+        ensures same { self.new.list.ghost_name ≡ self.old.list.ghost_name }
+    {
+        let Tally { lines, nid } = self.tally;
+        let taken = nids_taken(line);
+        if btor2_list::put(self.list, NodeRef(lines), line) {
+            self.tally = Tally {
+                lines: lines + 1,
+                nid: nid.wrapping_add(taken),
+            };
+        }
+        NodeRef(lines)
     }
-}
-
-// Appends a line of these fields under the next identifier, and gives its place. The tally is lent, and changed here.
-fn append(
-    list: &mut [u64],
-    tally: &mut Tally,
-    kind: u64,
-    sort: u64,
-    op1: NodeRef,
-    op2: NodeRef,
-    op3: NodeRef,
-    imm: u64,
-    name: Name,
-) -> NodeRef
-    ensures { ran (at list.new tally.new) result.0 ≡ append_line (at list.old tally.old) (row NoAddress tally.old.nid kind sort op1.0 op2.0 op3.0 imm name) }
-{
-    let t = *tally;
-    let made = append_line(list, t, kind, sort, op1, op2, op3, imm, name);
-    *tally = made.tally;
-    made.node
-}
-
-// Every line of the builder comes here: the tally that came by value lies in a local, which is lent to the append.
-pub(crate) fn add_node(
-    list: &mut [u64],
-    t: Tally,
-    kind: u64,
-    sort: u64,
-    op1: NodeRef,
-    op2: NodeRef,
-    op3: NodeRef,
-    imm: u64,
-    name: Name,
-) -> Made
-    ensures { made list.new result ≡ append_line (at list.old t) (row NoAddress t.nid kind sort op1.0 op2.0 op3.0 imm name) }
-{
-    let mut tally = t;
-    let node = append(list, &mut tally, kind, sort, op1, op2, op3, imm, name);
-    Made { tally, node }
 }

@@ -1,26 +1,34 @@
 // Reads and writes of a memory: one line each.
 ghost use Rattle.builder.specs.OneLine.{new_read, new_write};
-ghost use Rattle.builder.specs.Gives.{Gives};
+ghost use Rattle.builder.specs.Builds.{Builds};
 
-use crate::lines::plain;
-use crate::{Made, Tally};
+use crate::Builder;
 use btor2::{MEMORY, NodeRef, WORD};
-use btor2_list::{READ, WRITE};
+use btor2_list::{Line, READ, WRITE};
 
-pub fn new_read(list: &mut [u64], t: Tally, memory: NodeRef, address: NodeRef) -> Made
-    ensures { Gives list.old t (new_read memory.0 address.0) list.new result.tally result.node.0 }
-{
-    plain(list, t, READ, WORD, memory, address, NodeRef(0))
-}
+impl<'a> Builder<'a> {
+    pub fn new_read(&mut self, memory: NodeRef, address: NodeRef) -> NodeRef
+        ensures { Builds self.old (new_read memory.0 address.0) self.new result.0 }
+    {
+        self.add_node(Line {
+            kind: READ,
+            sort: WORD,
+            op1: memory,
+            op2: address,
+            ..self.next_line()
+        })
+    }
 
-pub fn new_write(
-    list: &mut [u64],
-    t: Tally,
-    memory: NodeRef,
-    address: NodeRef,
-    value: NodeRef,
-) -> Made
-    ensures { Gives list.old t (new_write memory.0 address.0 value.0) list.new result.tally result.node.0 }
-{
-    plain(list, t, WRITE, MEMORY, memory, address, value)
+    pub fn new_write(&mut self, memory: NodeRef, address: NodeRef, value: NodeRef) -> NodeRef
+        ensures { Builds self.old (new_write memory.0 address.0 value.0) self.new result.0 }
+    {
+        self.add_node(Line {
+            kind: WRITE,
+            sort: MEMORY,
+            op1: memory,
+            op2: address,
+            op3: value,
+            ..self.next_line()
+        })
+    }
 }

@@ -1,3 +1,4 @@
 pub mod Scan
 pub mod Record
 pub mod State
+pub mod Instruction

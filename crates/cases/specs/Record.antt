@@ -1,10 +1,10 @@
 -- A record in a text of cases: thirteen decimal numbers, each after the byte that ended the one before.
 use Rattle.std.specs.Prelude.{ℕ, List}
 use Rattle.btor2_list.specs.Record.{address_by}
-use Rattle.cases.specs.Scan.{number_from}
-use Rattle.cases.specs.declared.record.Placed.{Placed}
+use Rattle.cases.specs.Scan.{Read, read, number_from}
+use Rattle.cases.specs.declared.commands.Placed.{Placed}
 
-unfoldable pub record_from : List ℕ → ℕ → Placed
+unfoldable pub record_from : List ℕ → ℕ → Read Placed
 record_from text from =
     let place = number_from text from in
     let nid = number_from text place.next in
@@ -19,7 +19,7 @@ record_from text from =
     let len = number_from text at.next in
     let mark = number_from text len.next in
     let address = number_from text mark.next in
-    record {
+    read (record {
       place = record { 0 = place.value };
       line = record {
         nid = record { 0 = nid.value };
@@ -32,5 +32,4 @@ record_from text from =
         name = record { area = area.value; at = at.value; len = len.value };
         address = address_by mark.value address.value;
       };
-      next = address.next;
-    }
+    }) address.next

@@ -1,12 +1,11 @@
 -- Any list of calls: each line has the address of the call whose output it stands in, and the start's lines what they had. Assumes nothing.
+use Rattle.std.specs.Prelude.{Option, Some, None}
 use Prim.Native.Nat.{ℕ, ◌+◌, ◌-◌, ◌≤◌}
 use mathlib.Core.Path.{◌≡◌, refl, sym, ◌∙◌, ap}
 use mathlib.Core.List.{List, [], ◌∷◌, ◌++◌, map, map-append, append_assoc, append-nil}
 use native.Mathlib.Omega.{arith}
 use lib.ListN.{length, replicate, length-append, length-map}
 use Rattle.btor2.specs.Op.{Op, identifiers}
-use Rattle.btor2_list.specs.declared.MaybeAddress.{MaybeAddress}
-use Rattle.btor2_list.specs.declared.MaybeAddress.TheVariants.{Address, NoAddress}
 use Rattle.btor2_list.specs.Record.{words_for}
 use Rattle.btor2_list.specs.Node.{Node}
 use Rattle.btor2_list.specs.View.{view}
@@ -25,20 +24,20 @@ use Rattle.demand.proofs.Demand3.{stored}
 
 -- ---- lines that are appended with one address, or without one
 
-numbered_addresses : (w : MaybeAddress) (nid : ℕ) (os : List (Op ℕ)) → map (λ line. line.address) (numbered w nid os) ≡ replicate (length os) w
+numbered_addresses : (w : Option ℕ) (nid : ℕ) (os : List (Op ℕ)) → map (λ line. line.address) (numbered w nid os) ≡ replicate (length os) w
 unfolding numbered
 numbered_addresses w nid [] = refl
 numbered_addresses w nid (o ∷ os) = ap (λ r. w ∷ r) (numbered_addresses w (nid + identifiers o) os)
 
-numbered_length : (w : MaybeAddress) (nid : ℕ) (os : List (Op ℕ)) → length (numbered w nid os) ≡ length os
+numbered_length : (w : Option ℕ) (nid : ℕ) (os : List (Op ℕ)) → length (numbered w nid os) ≡ length os
 numbered_length w nid os = sym (length-map (numbered w nid os) (λ (line : Node). line.op)) ∙ ap length (numbered_operators w nid os)
 
 -- what is held has room for its lines, and more lines than what was held before, all with w
-record Grown (w : MaybeAddress) (h after : Held) : Type 0 where
+record Grown (w : Option ℕ) (h after : Held) : Type 0 where
   stored : words_for after.state.tally.lines ≤ length after.list
   addresses : addresses_in after ≡ addresses_in h ++ replicate (after.state.tally.lines - h.state.tally.lines) w
 
-by_lines : (w : MaybeAddress) (h after : Held) (nid : ℕ) (os : List (Op ℕ)) (lent : List Node) → view after.list after.state.tally.lines ≡ lent ++ numbered w nid os → lent ≡ view h.list h.state.tally.lines
+by_lines : (w : Option ℕ) (h after : Held) (nid : ℕ) (os : List (Op ℕ)) (lent : List Node) → view after.list after.state.tally.lines ≡ lent ++ numbered w nid os → lent ≡ view h.list h.state.tally.lines
     → addresses_in after ≡ addresses_in h ++ replicate (after.state.tally.lines - h.state.tally.lines) w
 unfolding addresses_in
 by_lines w h after nid os lent after-it is =
@@ -48,10 +47,10 @@ by_lines w h after nid os lent after-it is =
     let count : length os ≡ after.state.tally.lines - h.state.tally.lines = omega arith in
     ap (map (λ line. line.address)) e
     ∙ map-append (λ (line : Node). line.address) (view h.list h.state.tally.lines) (numbered w nid os)
-    ∙ ap (λ (r : List MaybeAddress). map (λ line. line.address) (view h.list h.state.tally.lines) ++ r) (numbered_addresses w nid os ∙ ap (λ (k : ℕ). replicate k w) count)
+    ∙ ap (λ (r : List (Option ℕ)). map (λ line. line.address) (view h.list h.state.tally.lines) ++ r) (numbered_addresses w nid os ∙ ap (λ (k : ℕ). replicate k w) count)
 
 -- a refused call
-unchanged : (w : MaybeAddress) (h : Held) → words_for h.state.tally.lines ≤ length h.list → Grown w h h
+unchanged : (w : Option ℕ) (h : Held) → words_for h.state.tally.lines ≤ length h.list → Grown w h h
 unchanged w h stored =
     let none : h.state.tally.lines - h.state.tally.lines ≡ 0 = omega arith in
     record { stored = stored; addresses = rw none (sym (append-nil (addresses_in h))) }
@@ -59,11 +58,11 @@ unchanged w h stored =
 -- ---- one call
 
 module _ (h : Held) (stored : words_for h.state.tally.lines ≤ length h.list) where
-  lowers : (c : Request) → Grown (Address c.call.address) h (step h (lower c))
+  lowers : (c : Request) → Grown (Some c.call.address) h (step h (lower c))
   unfolding answer_to lent_for state_for
-  lowers c = S.by_step h c (λ b x. Grown (Address c.call.address) h x) taken (unchanged _ h stored)
+  lowers c = S.by_step h c (λ b x. Grown (Some c.call.address) h x) taken (unchanged _ h stored)
     where
-      taken : K.number (S.call h c) ≡ 0 → Grown (Address c.call.address) h (S.left h c)
+      taken : K.number (S.call h c) ≡ 0 → Grown (Some c.call.address) h (S.left h c)
       taken q =
           let l = lent_for h c in
           let st = state_for h c in
@@ -73,20 +72,20 @@ module _ (h : Held) (stored : words_for h.state.tally.lines ≤ length h.list) w
           let room = O.room l st i address c.call.flag q in
           record {
             stored = omega (arith, a.lines, a.list.size, room.lines);
-            addresses = by_lines (Address address) h (S.left h c) h.state.tally.nid _ (view l.list h.state.tally.lines) a.nodes (front_view h.list c.list h.state.tally.lines stored (S.roomy h c q));
+            addresses = by_lines (Some address) h (S.left h c) h.state.tally.nid _ (view l.list h.state.tally.lines) a.nodes (front_view h.list c.list h.state.tally.lines stored (S.roomy h c q));
           }
 
-  joins : (c : Join) → Grown NoAddress h (step h (join c))
+  joins : (c : Join) → Grown None h (step h (join c))
   unfolding join_answer_to lent_join held_join
-  joins c = J.by_step h c (λ x. Grown NoAddress h x) taken (unchanged NoAddress h stored)
+  joins c = J.by_step h c (λ x. Grown None h x) taken (unchanged None h stored)
     where
-      taken : J.number h c ≡ 0 → Grown NoAddress h (J.taken h c)
+      taken : J.number h c ≡ 0 → Grown None h (J.taken h c)
       taken q =
           let l = lent_join h c in
           let k = held_join h c in
           record {
             stored = stored_after l k c.given q;
-            addresses = by_lines NoAddress h (J.taken h c) h.state.tally.nid _ (view l.list h.state.tally.lines) (nodes_after l k c.given q) (front_view h.list c.list h.state.tally.lines stored (J.roomy h c q));
+            addresses = by_lines None h (J.taken h c) h.state.tally.nid _ (view l.list h.state.tally.lines) (nodes_after l k c.given q) (front_view h.list c.list h.state.tally.lines stored (J.roomy h c q));
           }
 
   goes : (c : Call) → Grown (address_of c) h (step h c)
@@ -100,7 +99,7 @@ unfolding run addresses_by
 all_remember [] h stored = sym (append-nil (addresses_in h))
 all_remember (c ∷ cs) h stored =
     let g = goes h stored c in
-    all_remember cs (step h c) g.stored ∙ ap (λ (r : List MaybeAddress). r ++ addresses_by (step h c) cs) g.addresses ∙ append_assoc (addresses_in h) _ _
+    all_remember cs (step h c) g.stored ∙ ap (λ (r : List (Option ℕ)). r ++ addresses_by (step h c) cs) g.addresses ∙ append_assoc (addresses_in h) _ _
 
 pub lines_remember : LinesRemember
 lines_remember start calls accepted = all_remember calls start (stored start accepted)

@@ -6,7 +6,8 @@ use Rattle.std.specs.Prelude.{ℕ, ◌^◌, ◌≤◌, ◌<◌, ◌≡◌, Bool,
 use Rattle.btor2.specs.SortRule.{meets_sort_rule}
 use Rattle.btor2.specs.Value.{Value, Env, value}
 use Rattle.riscv.specs.Class.{needs_flag}
-use Rattle.riscv.specs.Kind.{Kind, kind_at}
+use Rattle.riscv.specs.declared.Kind.{Kind}
+use Rattle.riscv.specs.Kind.{kind_at}
 use Rattle.riscv.specs.Manual.{Effect, nothing, sets_rd, sets_memory, manual}
 use Rattle.riscv.specs.Memory.{bytes_of, cells_with}
 use Rattle.state.specs.Roles.{memory_node, memory_flow, role_count, role, register_node, register_flow}

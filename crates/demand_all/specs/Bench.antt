@@ -4,8 +4,7 @@ use Rattle.std.specs.Prelude.{ℕ, ◌≤◌, ◌≡◌, List}
 use Rattle.riscv.specs.Format.{last_register}
 use Rattle.state.specs.Roles.{register_flow}
 use Rattle.evaluation.specs.Given.{given_env}
-use Rattle.evaluation.specs.declared.Evaluated.{Evaluated}
-use Rattle.evaluation.specs.declared.Evaluated.TheVariants.{Value}
+use Rattle.evaluation.specs.Answer.{Evaluated, Value}
 use Rattle.evaluation.specs.Evaluation.{evaluated}
 use Rattle.demand.specs.Calls.{Held, Call, run}
 use Rattle.demand.specs.Demand3.{AcceptedStart, Records, NoneExcluded, AtMostOne, TrueOnesAdmitted, ZeroRegister, registers_by, true_ones}

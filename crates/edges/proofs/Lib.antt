@@ -1,1 +1,3 @@
 pub mod InEdges
+pub mod Copied
+pub mod Origins

@@ -8,82 +8,51 @@
 // the counts; the roles; and the five records. tools/entry_cases.py made the commands and what is to be written.
 #![tactic(auto)]
 
-ghost use Rattle.std.specs.Prelude.{◌≤◌};
+ghost use Rattle.std.specs.Prelude.{◌<◌, ◌≤◌};
 
 use btor2::NodeRef;
 use btor2_list::STRIDE;
-use cases::{read_counts, read_decimal, read_full, read_role, show, show_counts};
+use cases::{Commands, read_full, show_counts};
 use edges::{DISPATCH, InEdge};
-use lowering::Lowered;
-use riscv::Instruction;
-use state::{ROLES, State};
+use lowering::{Lent, LowerCall};
+use refusals::Refusal;
+use state::State;
 use std::io;
 
 const RECORDS: usize = 5;
 
-// The state and the records after a command, and where the next one starts.
-#[derive(Clone, Copy)]
-struct Went {
+// What is lent, and the state after the commands so far.
+#[derive(Drop)]
+struct Desk {
+    list: [u64; 500],
+    names: [u8; 64],
+    records: [InEdge; RECORDS],
+    dispatches: [u64; 4],
+    bads: [u64; 2],
     state: State,
-    records: [InEdge; RECORDS],
-    next: usize,
-}
-
-// What a call gives, and the records after it.
-#[derive(Clone, Copy)]
-struct Recorded {
-    lowered: Lowered,
-    records: [InEdge; RECORDS],
 }
 
 fn main(rt: HostRuntime) -> io::Result<()> {
     let mut buffer = [0u8; 65536];
     let n = read_full(&mut rt.stdin(), &mut buffer)?;
-    let mut list = [0u64; 500];
-    let mut names = [0u8; 64];
-    let mut dispatches = [0u64; 4];
-    let mut bads = [0u64; 2];
-    run(
-        &rt,
-        &buffer[..n],
-        &mut list,
-        &mut names,
-        &mut dispatches,
-        &mut bads,
-    )
-}
-
-fn run(
-    rt: &impl Print,
-    text: &[u8],
-    list: &mut [u64],
-    names: &mut [u8],
-    dispatches: &mut [u64],
-    bads: &mut [u64],
-) -> io::Result<()> {
-    let mut at = 0;
-    let mut went = fresh(list, 0);
-    while at < text.len() {
-        let state = went.state;
-        let records = went.records;
-        went = run_line(rt, text, at, list, names, dispatches, bads, state, records)?;
-        if went.next <= at {
-            return Ok(());
+    let mut desk = Desk {
+        list: [0; 500],
+        names: [0; 64],
+        records: unused_records(),
+        dispatches: [0; 4],
+        bads: [0; 2],
+        state: listing_start::start_state(),
+    };
+    listing_start::put_start(&mut desk.list);
+    let mut commands = Commands::new(&buffer[..n]);
+    // Each command takes a byte at least.
+    for _ in 0..n {
+        if commands.is_empty() {
+            break;
         }
-        at = went.next;
+        run_command(&rt, &mut commands, &mut desk)?;
     }
     Ok(())
-}
-
-fn fresh(list: &mut [u64], next: usize) -> Went {
-    listing_start::put_start(list);
-    let state = listing_start::start_state();
-    let records = unused_records();
-    Went {
-        state,
-        records,
-        next,
-    }
 }
 
 // Records that tell each other apart, and that no call makes.
@@ -107,226 +76,112 @@ fn unused_record(place: usize) -> InEdge
     }
 }
 
-// One command.
-fn run_line(
-    rt: &impl Print,
-    text: &[u8],
-    at: usize,
-    list: &mut [u64],
-    names: &mut [u8],
-    dispatches: &mut [u64],
-    bads: &mut [u64],
-    state: State,
-    records: [InEdge; RECORDS],
-) -> io::Result<Went> {
-    let command = read_decimal(text, at);
-    let from = command.next;
-    let which = command.value;
-    if which == 1 {
-        return run_lower(
-            rt, text, from, list, names, dispatches, bads, state, records,
-        );
+fn run_command(rt: &impl Print, commands: &mut Commands, desk: &mut Desk) -> io::Result<()> {
+    match commands.number() {
+        1 => run_lower(rt, commands, desk)?,
+        2 => {
+            listing_start::put_start(&mut desk.list);
+            desk.state = listing_start::start_state();
+            desk.records = unused_records();
+        }
+        3 => desk.state = commands.counts(desk.state),
+        _ => desk.state = commands.role(desk.state),
     }
-    if which == 2 {
-        return Ok(fresh(list, from));
-    }
-    let step = if which == 3 {
-        read_counts(text, from, state)
-    } else {
-        read_role(text, from, state)
-    };
-    let changed = step.state;
-    Ok(Went {
-        state: changed,
-        records,
-        next: step.next,
-    })
+    Ok(())
 }
 
-fn run_lower(
-    rt: &impl Print,
-    text: &[u8],
-    at: usize,
-    list: &mut [u64],
-    names: &mut [u8],
-    dispatches: &mut [u64],
-    bads: &mut [u64],
-    state: State,
-    records: [InEdge; RECORDS],
-) -> io::Result<Went> {
-    let room = read_decimal(text, at);
-    let address = read_decimal(text, room.next);
-    let kind = read_decimal(text, address.next);
-    let rd = read_decimal(text, kind.next);
-    let rs1 = read_decimal(text, rd.next);
-    let rs2 = read_decimal(text, rs1.next);
-    let imm = read_decimal(text, rs2.next);
-    let flag = read_decimal(text, imm.next);
-    let i = Instruction {
-        kind: kind.value,
-        rd: rd.value,
-        rs1: rs1.value,
-        rs2: rs2.value,
-        imm: imm.value,
-    };
-    let place = NodeRef(flag.value as usize);
-    let lent = at_most_all(room.value);
-    let recorded = lower_with(
-        list,
-        names,
-        records,
-        lent,
-        dispatches,
-        bads,
-        state,
-        i,
-        address.value,
-        place,
-    );
-    let lowered = recorded.lowered;
-    let after = lowered.state;
-    let left = recorded.records;
-    rt.write_all(b"refusal ")?;
-    show(rt, lowered.refusal, b"\n")?;
-    show_appended(rt, list, names, dispatches, bads, state, after)?;
-    show_records(rt, left)?;
-    Ok(Went {
-        state: after,
-        records: left,
-        next: flag.next,
-    })
-}
-
-fn at_most_all(n: u64) -> usize
-    ensures { result ≤ 5 }
-{
-    let count = n as usize;
-    if RECORDS < count {
-        return RECORDS;
-    }
-    count
-}
-
-// The call, with the first `room` records lent.
-fn lower_with(
-    list: &mut [u64],
-    names: &mut [u8],
-    records: [InEdge; RECORDS],
-    room: usize,
-    dispatches: &mut [u64],
-    bads: &mut [u64],
-    state: State,
-    i: Instruction,
-    address: u64,
-    flag: NodeRef,
-) -> Recorded
-    requires { room ≤ 5 }
-{
-    let mut edges = records;
-    let lowered = lowering_entry::lower(
-        list,
-        names,
-        &mut edges[..room],
-        dispatches,
-        bads,
-        state,
-        i,
+fn run_lower(rt: &impl Print, commands: &mut Commands, desk: &mut Desk) -> io::Result<()> {
+    let room = commands.number();
+    let address = commands.number();
+    let instruction = commands.instruction();
+    let flag = NodeRef(commands.number() as usize);
+    let call = LowerCall {
+        instruction,
         address,
         flag,
-    );
-    Recorded {
-        lowered,
-        records: edges,
+    };
+    let before = desk.state;
+    match lower_with(desk, room, call) {
+        Ok(after) => {
+            desk.state = after;
+            println!(rt; "refusal 0")?;
+        }
+        Err(refusal) => println!(rt; "refusal {}", refusal.number())?,
     }
+    show_appended(rt, desk, before)
+}
+
+// The call, with the first `room` records lent, or all of them.
+fn lower_with(desk: &mut Desk, room: u64, call: LowerCall) -> Result<State, Refusal> {
+    let state = desk.state;
+    let records = &mut desk.records[..];
+    let count = RECORDS.min(room as usize);
+    let mut lent = Lent {
+        list: &mut desk.list,
+        names: &mut desk.names,
+        edges: &mut records[..count],
+        dispatches: &mut desk.dispatches,
+        bads: &mut desk.bads,
+    };
+    lowering_entry::lower(&mut lent, state, call)
 }
 
 // What a call changed: the state before it says where it wrote.
-fn show_appended(
-    rt: &impl Print,
-    list: &[u64],
-    names: &[u8],
-    dispatches: &[u64],
-    bads: &[u64],
-    before: State,
-    after: State,
-) -> io::Result<()> {
-    let old = before.tally;
-    let new = after.tally;
+fn show_appended(rt: &impl Print, desk: &Desk, before: State) -> io::Result<()> {
+    let after = desk.state;
     let from = before.counts;
     let to = after.counts;
-    show_words(rt, b"lines", list, STRIDE, old.lines, new.lines)?;
     show_words(
         rt,
-        b"dispatches",
-        dispatches,
+        "lines",
+        &desk.list,
+        STRIDE,
+        before.tally.lines,
+        after.tally.lines,
+    )?;
+    show_words(
+        rt,
+        "dispatches",
+        &desk.dispatches,
         DISPATCH,
         from.dispatches,
         to.dispatches,
     )?;
-    show_words(rt, b"bads", bads, 1, from.bads, to.bads)?;
-    show_names(rt, names, from.names, to.names)?;
-    show_counts(rt, new, to)?;
-    let roles = after.roles;
-    show_roles(rt, roles)
+    show_words(rt, "bads", &desk.bads, 1, from.bads, to.bads)?;
+    print!(rt; "names ")?;
+    rt.write_all(desk.names.get(from.names..to.names).unwrap_or(b""))?;
+    println!(rt)?;
+    show_counts(rt, after.tally, to)?;
+    print!(rt; "roles")?;
+    for place in &after.roles {
+        print!(rt; " {}", place.0)?;
+    }
+    println!(rt)?;
+    for edge in &desk.records {
+        println!(rt;
+            "record {} {} {} {}",
+            edge.to, edge.from, edge.origin, edge.condition.0
+        )?;
+    }
+    Ok(())
 }
 
 // The words of the elements from one place up to another, of so many words each.
 fn show_words(
     rt: &impl Print,
-    title: &[u8],
+    title: &str,
     words: &[u64],
     each: usize,
     from: usize,
     to: usize,
-) -> io::Result<()> {
-    rt.write_all(title)?;
-    let mut at = 0;
-    while at < words.len() {
-        if within(at, each, from, to) {
-            rt.write_all(b" ")?;
-            rt.print(words[at])?;
-        }
-        at += 1;
-    }
-    rt.write_all(b"\n")
-}
-
-fn within(at: usize, each: usize, from: usize, to: usize) -> bool {
-    if each == 0 {
-        return false;
-    }
-    let element = at / each;
-    (from <= element) & (element < to)
-}
-
-fn show_names(rt: &impl Print, names: &[u8], from: usize, to: usize) -> io::Result<()> {
-    rt.write_all(b"names ")?;
-    if from <= to {
-        if to <= names.len() {
-            rt.write_all(&names[from..to])?;
+) -> io::Result<()>
+    requires { 0 < each }
+{
+    print!(rt; "{title}")?;
+    for element in words.chunks(each).take(to).skip(from) {
+        for word in element {
+            print!(rt; " {word}")?;
         }
     }
-    rt.write_all(b"\n")
-}
-
-fn show_roles(rt: &impl Print, roles: [NodeRef; ROLES]) -> io::Result<()> {
-    rt.write_all(b"roles")?;
-    for role in 0..ROLES {
-        rt.write_all(b" ")?;
-        let place = roles[role];
-        rt.print(place.0 as u64)?;
-    }
-    rt.write_all(b"\n")
-}
-
-fn show_records(rt: &impl Print, records: [InEdge; RECORDS]) -> io::Result<()> {
-    for place in 0..RECORDS {
-        let edge = records[place];
-        rt.write_all(b"record ")?;
-        show(rt, edge.to, b" ")?;
-        show(rt, edge.from, b" ")?;
-        show(rt, edge.origin, b" ")?;
-        show(rt, edge.condition.0 as u64, b"\n")?;
-    }
-    Ok(())
+    println!(rt)
 }

@@ -1,4 +1,5 @@
 -- The bench on a small list, computed: values, visits and refusals. Assumes nothing.
+use Rattle.std.specs.Prelude.{None}
 use Prim.Native.Nat.{ℕ, ◌^◌, ◌-◌}
 use mathlib.Core.Path.{◌≡◌, refl}
 use mathlib.Core.List.{List, [], ◌∷◌, ◌++◌}
@@ -10,15 +11,13 @@ use Rattle.btor2.specs.Op.{Op, const, read, write, bin, add, sub, uext, ite, and
 use Rattle.btor2.specs.SortRule.{rule, is_state_op, judge}
 use Rattle.btor2.specs.Value.{binary}
 use Rattle.btor2.specs.Walk.{walk}
-use Rattle.btor2_list.specs.declared.MaybeAddress.TheVariants.{NoAddress}
 use Rattle.btor2_list.specs.Record.{words, record_at}
 use Rattle.btor2_list.specs.Node.{line_of, op_of, no_name}
 use Rattle.btor2_list.specs.Records.{records_in, first_given}
 use Rattle.btor2_list.specs.View.{view}
 use Rattle.list_check.specs.Lines.{some}
 use Rattle.list_check.specs.Broken.{op_broken}
-use Rattle.evaluation.specs.declared.Evaluated.{Evaluated}
-use Rattle.evaluation.specs.declared.Evaluated.TheVariants.{Refused, Value}
+use Rattle.evaluation.specs.Answer.{Evaluated, Refused, Value}
 use Rattle.evaluation.specs.Evaluation.{after_value, one, both, look_of, looks_of, looks, unfit, evaluated_within}
 
 lines : List (Op ℕ)
@@ -47,7 +46,7 @@ lines =
 
 stored : List (Op ℕ) → List ℕ
 stored [] = []
-stored (o ∷ os) = words (line_of NoAddress 0 o) ++ stored os
+stored (o ∷ os) = words (line_of None 0 o) ++ stored os
 
 -- a value each of 0, 1 and 3, those of 1 and 3 too wide, and the word of 2 at address 9; then others that do not count
 given_values : List ℕ

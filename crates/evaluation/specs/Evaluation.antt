@@ -15,8 +15,7 @@ use Rattle.btor2_list.specs.View.{view}
 use Rattle.list_check.specs.Lines.{ops, op_at}
 use Rattle.list_check.specs.Broken.{broken_words}
 use Rattle.evaluation.specs.Given.{given_env}
-use Rattle.evaluation.specs.declared.Evaluated.{Evaluated}
-use Rattle.evaluation.specs.declared.Evaluated.TheVariants.{Refused, Value}
+use Rattle.evaluation.specs.Answer.{Evaluated, Refused, Value}
 
 -- what comes after a value x and a count n of visits; a refusal ends all
 unfoldable pub after_value : Evaluated → (ℕ → ℕ → Evaluated) → Evaluated

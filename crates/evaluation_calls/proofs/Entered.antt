@@ -1,4 +1,4 @@
--- A line that is visited: below the most_visits and where it meets the sort rule, what it comes to is what its operands come to. Assumes nothing.
+-- A line that is visited: below the most visits and where it meets the sort rule, what it comes to is what its operands come to. Assumes nothing.
 use Rattle.std.proofs.Common.{◌≡◌, ℕ, ◌+◌, ◌<◌, ◌≤◌, Bool, true, false, ◌&&◌, ◌||◌, List, [], length, sym, refl, ap, ◌∙◌, ap₂, arith, le-ltb, lt-ltb}
 use mathlib.Core.Path.{fun_ext}
 use lib.ListN.{get_or-eq_default}
@@ -15,13 +15,13 @@ use Rattle.btor2_list.specs.Record.{capacity}
 use Rattle.btor2_list.specs.View.{view}
 use Rattle.list_check.specs.Lines.{ops}
 use Rattle.sort_check.specs.Marks.{mark_at}
-use Rattle.evaluation.specs.declared.Evaluated.TheVariants.{Refused}
+use Rattle.evaluation.specs.Answer.{Refused}
 use Rattle.evaluation.specs.Evaluation.{ill_sorted, too_many_visits, most_visits, Looks, look_of, looks_of, no_looks, looks, looks_at}
 use Rattle.evaluation_calls.specs.Inside.{said_at, all_of}
 use Rattle.evaluation_calls.proofs.Walked.{first, kept, at, long}
 use Rattle.evaluation_calls.proofs.Parts.{two, Parts, parts, earlier, mark_before, mark_after}
 
-first_or : (P : Type 0) (a b c d : Bool) → ((a && b) || (c && d)) ≡ true → (a ≡ true → b ≡ true → P) → (c ≡ true → d ≡ true → P) → P
+pub first_or : (P : Type 0) (a b c d : Bool) → ((a && b) || (c && d)) ≡ true → (a ≡ true → b ≡ true → P) → (c ≡ true → d ≡ true → P) → P
 first_or P true true c d e l r = l refl refl
 first_or P true false c d e l r = r (two c d e).0 (two c d e).1
 first_or P false b c d e l r = r (two c d e).0 (two c d e).1
@@ -89,7 +89,7 @@ module _ (env : Env) (ws : List ℕ) where
         (said_at ws p)
         (parts (mark_at ws p) (said_at ws p) r)
 
-    -- a visit past the most_visits, one of a line that breaks the rule, and another
+    -- a visit past the most visits, one of a line that breaks the rule, and another
     pub num_over : (v : ℕ) → most_visits ≤ v → (looks_at most_visits env (all_of ws) p).num v ≡ Refused too_many_visits
     unfolding looks_of
     num_over v l = ap (λ (k : Looks). k.num v) whole ∙ rw (le-ltb v most_visits l)

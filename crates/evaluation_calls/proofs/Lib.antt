@@ -2,6 +2,7 @@ pub mod Records
 pub mod Walked
 pub mod Parts
 pub mod Entered
+pub mod Visited
 pub mod Steps
+pub mod Words
 pub mod Answer
-pub mod Halves

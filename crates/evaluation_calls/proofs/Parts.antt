@@ -1,18 +1,16 @@
 -- What the sort rule of a line says of its operands: each is an earlier line of a sort. Assumes nothing.
-use Rattle.std.proofs.Common.{◌≡◌, ℕ, ◌<◌, ◌≤◌, Bool, true, false, ◌&&◌, ◌||◌, T, List, length, sym, refl, ap, ◌∙◌, true≢false, arith, le-ltb, lt-ltb}
+use Rattle.std.proofs.Common.{◌≡◌, ℕ, ◌<◌, ◌≤◌, Bool, true, false, ◌&&◌, ◌||◌, T, List, length, sym, refl, ap, ◌∙◌, true≢false, arith, le-ltb, lt-ltb, Option, Some, None}
 use mathlib.Core.Bool as B
 use Rattle.bitvec.proofs.Base.{by_le}
 use Rattle.btor2.specs.declared.NodeType.{NodeType}
 use Rattle.btor2.specs.declared.NodeType.TheVariants.{Bit, Word, Memory}
-use Rattle.btor2.specs.declared.MaybeSort.{MaybeSort}
-use Rattle.btor2.specs.declared.MaybeSort.TheVariants.{Sort, NoSort}
 use Rattle.btor2.specs.Sort.{same_sort}
 use Rattle.btor2.specs.Op.{Op, map_op, const, read, write, bin, uext, ite, eq, and, or, not, state, state_init, next, input, bad, unknown, carried}
 use Rattle.btor2.specs.SortRule.{Mark, mark_of, has_sort, is, bit_or_word, rule, no_line}
 use Rattle.btor2.proofs.Sort.{same_sort_lem}
 use Rattle.btor2_list.specs.Record.{capacity}
 use Rattle.sort_check.specs.Marks.{mark_at}
-use Rattle.evaluation_calls.specs.Inside.{said_at, Visitable}
+use Rattle.evaluation_calls.specs.Inside.{said_at}
 
 pub two : (a b : Bool) → (a && b) ≡ true → (a ≡ true) × (b ≡ true)
 two true b e = (refl, e)
@@ -60,33 +58,13 @@ parts f (input s m) e = tt
 parts f (bad a m) e = e
 parts f unknown e = absurd (true≢false (sym e))
 
--- a Bit is no Word, and neither is no sort
 so : (b : Bool) → b ≡ true → T b
 so true e = tt
 so false e = absurd (true≢false (sym e))
 
-pub has : (s : NodeType) (x : MaybeSort) → has_sort s x ≡ true → x ≡ Sort s
-has s (Sort t) e = ap Sort (sym (same_sort_lem s t (so _ e)))
-has s NoSort e = absurd (true≢false (sym e))
-
--- an Eq's operands: two Bits where the first is one, else two Words
-either_left : (a b c d : Bool) → ((a && b) || (c && d)) ≡ true → a ≡ true → c ≡ false → b ≡ true
-either_left true true c d e h k = refl
-either_left true false c d e h k = absurd (true≢false (sym (rw k at e)))
-either_left false b c d e h k = absurd (true≢false (sym h))
-
-either_right : (a b c d : Bool) → ((a && b) || (c && d)) ≡ true → a ≡ false → (c ≡ true) × (d ≡ true)
-either_right true b c d e h = absurd (true≢false h)
-either_right false b c d e h = two _ _ e
-
-bit_no_word : (x : MaybeSort) → has_sort Bit x ≡ true → has_sort Word x ≡ false
-bit_no_word x e = rw (has Bit x e)
-
-pub eq-bits : (f : ℕ → Mark) (a b : ℕ) → Parts f (eq a b) → is Bit (f a) ≡ true → is Bit (f b) ≡ true
-eq-bits f a b e h = either_left _ _ _ _ e h (bit_no_word (f a).sort h)
-
-pub eq_words : (f : ℕ → Mark) (a b : ℕ) → Parts f (eq a b) → is Bit (f a) ≡ false → (is Word (f a) ≡ true) × (is Word (f b) ≡ true)
-eq_words f a b e h = either_right _ _ _ _ e h
+pub has : (s : NodeType) (x : Option NodeType) → has_sort s x ≡ true → x ≡ Some s
+has s (Some t) e = ap Some (sym (same_sort_lem s t (so _ e)))
+has s None e = absurd (true≢false (sym e))
 
 -- ---- an operand that has a sort is an earlier line of that sort
 
@@ -97,14 +75,8 @@ module _ (ws : List ℕ) (p : ℕ) (held : p < capacity (length ws)) where
   pub mark_after : (q : ℕ) → p ≤ q → mark_at ws p q ≡ no_line.mark
   mark_after q h = rw (le-ltb q p h)
 
-  pub earlier : (s : NodeType) (q : ℕ) → is s (mark_at ws p q) ≡ true → (q < p) × (carried (said_at ws q) ≡ Sort s)
+  pub earlier : (s : NodeType) (q : ℕ) → is s (mark_at ws p q) ≡ true → (q < p) × (carried (said_at ws q) ≡ Some s)
   earlier s q e =
       by_le p q
       (λ h. absurd (true≢false (sym e ∙ ap (is s) (mark_after q h))))
       (λ h. (h, has s (carried (said_at ws q)) (sym (ap (is s) (mark_before q h)) ∙ e)))
-
-  pub state_earlier : (q : ℕ) → (mark_at ws p q).is_state ≡ true → q < p
-  state_earlier q e = by_le p q (λ h. absurd (true≢false (sym e ∙ ap (λ (m : Mark). m.is_state) (mark_after q h)))) (λ h. h)
-
-  pub asked : (test : MaybeSort → Bool) (s : NodeType) (q : ℕ) → is s (mark_at ws p q) ≡ true → test (Sort s) ≡ true → Visitable test ws q
-  asked test s q e t = let h = earlier s q e in record { held = omega arith; sort = ap test h.1 ∙ t }

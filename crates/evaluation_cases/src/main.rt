@@ -13,260 +13,140 @@
 
 use btor2::NodeRef;
 use btor2_list::STRIDE;
-use cases::{read_decimal, read_full, show};
-use evaluation::Evaluated;
+use cases::{Commands, read_full};
 use evaluation_calls::evaluate;
 use std::io;
 
-// How many words of each area are in use.
-#[derive(Clone, Copy)]
-struct Used {
-    list: usize,
-    values: usize,
-    memory: usize,
+// Words, of which some at the front are in use.
+#[derive(Drop)]
+struct Area<const N: usize> {
+    words: [u64; N],
+    used: usize,
 }
 
-// What is in use after a command, and where the next one starts.
-#[derive(Clone, Copy)]
-struct Step {
-    used: Used,
-    next: usize,
+#[derive(Drop)]
+struct Areas {
+    list: Area<20500>,
+    values: Area<256>,
+    memory: Area<384>,
 }
 
-// The four words of a line.
-#[derive(Clone, Copy)]
-struct Words {
-    head: u64,
-    a: u64,
-    b: u64,
-    c: u64,
+impl<const N: usize> Area<N> {
+    fn new() -> Self {
+        Area {
+            words: [0; N],
+            used: 0,
+        }
+    }
+
+    // Puts words after those in use, where all of them fit, and tells whether they did.
+    fn append(&mut self, words: &[u64]) -> bool {
+        let Some(end) = self.used.checked_add(words.len()) else {
+            return false;
+        };
+        let Some(room) = self.words.get_mut(self.used..end) else {
+            return false;
+        };
+        room.copy_from_slice(words);
+        self.used = end;
+        true
+    }
+
+    fn keep(&mut self, n: u64) {
+        self.used = self.used.min(n as usize);
+    }
+
+    // As many words as are asked for, or all that there are.
+    fn lend(&self, n: u64) -> &[u64] {
+        self.words.get(..n as usize).unwrap_or(&self.words)
+    }
 }
 
 fn main(rt: HostRuntime) -> io::Result<()> {
     let mut buffer = [0u8; 262144];
     let n = read_full(&mut rt.stdin(), &mut buffer)?;
-    let mut list = [0u64; 20500];
-    let mut values = [0u64; 256];
-    let mut memory = [0u64; 384];
-    run(&rt, &buffer[..n], &mut list, &mut values, &mut memory)
-}
-
-fn run(
-    rt: &impl Print,
-    text: &[u8],
-    list: &mut [u64],
-    values: &mut [u64],
-    memory: &mut [u64],
-) -> io::Result<()> {
-    let mut used = Used {
-        list: 0,
-        values: 0,
-        memory: 0,
+    let mut areas = Areas {
+        list: Area::new(),
+        values: Area::new(),
+        memory: Area::new(),
     };
-    let mut at = 0;
-    while at < text.len() {
-        let step = run_line(rt, text, at, list, values, memory, used)?;
-        if step.next <= at {
-            return Ok(());
+    let mut commands = Commands::new(&buffer[..n]);
+    // Each command takes a byte at least.
+    for _ in 0..n {
+        if commands.is_empty() {
+            break;
         }
-        at = step.next;
-        used = step.used;
+        run_command(&rt, &mut commands, &mut areas)?;
     }
     Ok(())
 }
 
-// One command.
-fn run_line(
-    rt: &impl Print,
-    text: &[u8],
-    at: usize,
-    list: &mut [u64],
-    values: &mut [u64],
-    memory: &mut [u64],
-    used: Used,
-) -> io::Result<Step> {
-    let command = read_decimal(text, at);
-    let from = command.next;
-    let which = command.value;
-    match which {
-        1 => Ok(run_lines(text, from, list, used, false)),
-        2 => Ok(run_lines(text, from, list, used, true)),
-        3 => Ok(run_value(text, from, values, used)),
-        4 => Ok(run_memory(text, from, memory, used)),
-        5 => run_ask(rt, text, from, list, values, memory, used),
-        _ => Ok(run_keep(text, from, used)),
-    }
-}
-
-// Lines; `placed` tells whether their own place is added to the words after the first.
-fn run_lines(text: &[u8], at: usize, list: &mut [u64], used: Used, placed: bool) -> Step {
-    let count = read_decimal(text, at);
-    let head = read_decimal(text, count.next);
-    let a = read_decimal(text, head.next);
-    let b = read_decimal(text, a.next);
-    let c = read_decimal(text, b.next);
-    let line = Words {
-        head: head.value,
-        a: a.value,
-        b: b.value,
-        c: c.value,
-    };
-    let n = append_lines(list, used.list, count.value, line, placed);
-    Step {
-        used: Used {
-            list: n,
-            values: used.values,
-            memory: used.memory,
-        },
-        next: c.next,
-    }
-}
-
-// Appends lines until there are as many or one does not fit.
-fn append_lines(list: &mut [u64], from: usize, count: u64, line: Words, placed: bool) -> usize {
-    let mut at = from;
-    let mut left = count;
-    while 0 < left {
-        let next = append_line(list, at, line, placed);
-        if next == at {
-            return at;
+fn run_command(rt: &impl Print, commands: &mut Commands, areas: &mut Areas) -> io::Result<()> {
+    match commands.number() {
+        1 => append_lines(commands, &mut areas.list, false),
+        2 => append_lines(commands, &mut areas.list, true),
+        3 => {
+            let node = commands.number();
+            let value = commands.number();
+            areas.values.append(&[node, value]);
         }
-        at = next;
-        left -= 1;
+        4 => {
+            let node = commands.number();
+            let address = commands.number();
+            let word = commands.number();
+            areas.memory.append(&[node, address, word]);
+        }
+        5 => show_asked(rt, commands, areas)?,
+        _ => {
+            areas.list.keep(commands.number());
+            areas.values.keep(commands.number());
+            areas.memory.keep(commands.number());
+        }
     }
-    at
+    Ok(())
 }
 
-fn append_line(list: &mut [u64], at: usize, line: Words, placed: bool) -> usize {
-    let place = own_place(at, placed);
-    let words = [
-        line.head,
-        std::num::wrapping_add_u64(line.a, place),
-        std::num::wrapping_add_u64(line.b, place),
-        std::num::wrapping_add_u64(line.c, place),
-        0,
-    ];
-    append(list, at, &words)
-}
-
-// What is added: the line's own place, or nothing.
-fn own_place(at: usize, placed: bool) -> u64 {
-    if placed { (at / STRIDE) as u64 } else { 0 }
-}
-
-// Puts the words at a place of the area where all of them fit. The answer is the place after them, or the same place.
-fn append(area: &mut [u64], at: usize, words: &[u64]) -> usize {
-    let n = words.len();
-    if area.len() < n {
-        return at;
-    }
-    if area.len() - n < at {
-        return at;
-    }
-    let mut i = 0;
-    while i < n {
-        area[at + i] = words[i];
-        i += 1;
-    }
-    at + n
-}
-
-fn run_value(text: &[u8], at: usize, values: &mut [u64], used: Used) -> Step {
-    let node = read_decimal(text, at);
-    let value = read_decimal(text, node.next);
-    let words = [node.value, value.value];
-    let n = append(values, used.values, &words);
-    Step {
-        used: Used {
-            list: used.list,
-            values: n,
-            memory: used.memory,
-        },
-        next: value.next,
+// Appends lines until there are as many or one does not fit; `placed` tells whether their own place is added to the words after the first.
+fn append_lines<const N: usize>(commands: &mut Commands, list: &mut Area<N>, placed: bool) {
+    let count = commands.number();
+    let head = commands.number();
+    let a = commands.number();
+    let b = commands.number();
+    let c = commands.number();
+    for _ in 0..count {
+        let place = if placed {
+            (list.used / STRIDE) as u64
+        } else {
+            0
+        };
+        let words = [
+            head,
+            a.wrapping_add(place),
+            b.wrapping_add(place),
+            c.wrapping_add(place),
+            0,
+        ];
+        if !list.append(&words) {
+            break;
+        }
     }
 }
 
-fn run_memory(text: &[u8], at: usize, memory: &mut [u64], used: Used) -> Step {
-    let node = read_decimal(text, at);
-    let address = read_decimal(text, node.next);
-    let word = read_decimal(text, address.next);
-    let words = [node.value, address.value, word.value];
-    let n = append(memory, used.memory, &words);
-    Step {
-        used: Used {
-            list: used.list,
-            values: used.values,
-            memory: n,
-        },
-        next: word.next,
-    }
-}
-
-fn run_keep(text: &[u8], at: usize, used: Used) -> Step {
-    let list = read_decimal(text, at);
-    let values = read_decimal(text, list.next);
-    let memory = read_decimal(text, values.next);
-    Step {
-        used: Used {
-            list: least(list.value, used.list),
-            values: least(values.value, used.values),
-            memory: least(memory.value, used.memory),
-        },
-        next: memory.next,
-    }
-}
-
-fn least(asked: u64, there: usize) -> usize {
-    let n = asked as usize;
-    if there < n { there } else { n }
-}
-
-fn run_ask(
-    rt: &impl Print,
-    text: &[u8],
-    at: usize,
-    list: &[u64],
-    values: &[u64],
-    memory: &[u64],
-    used: Used,
-) -> io::Result<Step> {
-    let words = read_decimal(text, at);
-    let of_values = read_decimal(text, words.next);
-    let of_memory = read_decimal(text, of_values.next);
-    let lines = read_decimal(text, of_memory.next);
-    let place = read_decimal(text, lines.next);
+fn show_asked(rt: &impl Print, commands: &mut Commands, areas: &Areas) -> io::Result<()> {
+    let words = commands.number();
+    let values = commands.number();
+    let memory = commands.number();
+    let lines = commands.number();
+    let place = commands.number();
     let answer = evaluate(
-        first_words(list, words.value),
-        lines.value as usize,
-        first_words(values, of_values.value),
-        first_words(memory, of_memory.value),
-        NodeRef(place.value as usize),
+        areas.list.lend(words),
+        lines as usize,
+        areas.values.lend(values),
+        areas.memory.lend(memory),
+        NodeRef(place as usize),
     );
-    show_answer(rt, answer)?;
-    Ok(Step {
-        used,
-        next: place.next,
-    })
-}
-
-// As many as are asked for, or all that there are.
-fn first_words(s: &[u64], n: u64) -> &[u64] {
-    let e = n as usize;
-    if s.len() < e {
-        return s;
-    }
-    &s[0..e]
-}
-
-fn show_answer(rt: &impl Print, answer: Evaluated) -> io::Result<()> {
     match answer {
-        Evaluated::Refused(number) => {
-            rt.write_all(b"refused ")?;
-            show(rt, number, b"\n")
-        }
-        Evaluated::Value(value, visits) => {
-            show(rt, value, b" ")?;
-            show(rt, visits, b"\n")
-        }
+        Ok(evaluated) => println!(rt; "{} {}", evaluated.value, evaluated.visits),
+        Err(refusal) => println!(rt; "refused {}", refusal.number()),
     }
 }

@@ -24,8 +24,7 @@ use Rattle.btor2.proofs.SortRule.{right_next}
 use Rattle.btor2_list.specs.View.{view}
 use Rattle.list_check.specs.Lines.{ops}
 use Rattle.evaluation.specs.Given.{given_env}
-use Rattle.evaluation.specs.declared.Evaluated.{Evaluated}
-use Rattle.evaluation.specs.declared.Evaluated.TheVariants.{Refused, Value}
+use Rattle.evaluation.specs.Answer.{Evaluated, Refused, Value}
 use Rattle.evaluation.specs.Evaluation.{after_value, Looks, one, both, look_of, too_many_visits, visit, looks_of, no_looks, looks, looks_at, evaluated_within}
 use Rattle.evaluation_laws.specs.Laws.{AnswersWhereRight}
 use Rattle.evaluation_laws.proofs.Law.{ite_num, ite_mem, gives_the_value}

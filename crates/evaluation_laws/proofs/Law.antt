@@ -19,8 +19,7 @@ use Rattle.btor2.specs.Value as Val
 use Rattle.btor2_list.specs.View.{view}
 use Rattle.list_check.specs.Lines.{ops}
 use Rattle.evaluation.specs.Given.{given_env}
-use Rattle.evaluation.specs.declared.Evaluated.{Evaluated}
-use Rattle.evaluation.specs.declared.Evaluated.TheVariants.{Refused, Value}
+use Rattle.evaluation.specs.Answer.{Evaluated, Refused, Value}
 use Rattle.evaluation.specs.Evaluation.{after_value, Looks, one, both, look_of, ill_sorted, too_many_visits, unfit_asked, visit, looks_of, no_looks, looks, looks_at, unfit, evaluated_within}
 use Rattle.evaluation_laws.specs.Laws.{IsTheValue, GivesTheValue}
 
@@ -30,7 +29,7 @@ pub record Told (limit : ℕ) (l : Looks) (v : Val.Value) : Type 0 where
   pub cell : (a n x k : ℕ) → n ≤ limit → l.cell a n ≡ Value x k → (x ≡ v.mem a) × (k ≤ limit)
 
 never : {P : Type 0} (r x k : ℕ) → Refused r ≡ Value x k → P
-never r x k e = let z : ◌≡◌ {A = ℕ} 0 1 = cc in absurd (omega arith)
+never r x k e = cc
 
 -- what is there
 settled : {limit : ℕ} (x y n k : ℕ) → n ≤ limit → Value y n ≡ Value x k → (x ≡ y) × (k ≤ limit)

@@ -5,7 +5,7 @@ use Rattle.btor2.specs.Value.{value}
 use Rattle.btor2_list.specs.View.{view}
 use Rattle.list_check.specs.Lines.{ops}
 use Rattle.evaluation.specs.Given.{given_env}
-use Rattle.evaluation.specs.declared.Evaluated.TheVariants.{Refused, Value}
+use Rattle.evaluation.specs.Answer.{Refused, Value}
 use Rattle.evaluation.specs.Evaluation.{too_many_visits, unfit, evaluated_within}
 
 -- the value that the line at a place has (btor2/specs/Value) where states and inputs are what the records say: what demand 3 speaks of

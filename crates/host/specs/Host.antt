@@ -1,15 +1,12 @@
 -- The functions for a host: a call over the state's words is defined in lowering/specs (Words and All); here printing, whose answer is two
 -- numbers, the check of a start, whose state is words, the bench, whose answer is three numbers, and a line's address, whose answer is two.
-use Rattle.std.specs.Prelude.{ℕ, cond, List, ltb, length}
-use Rattle.btor2_list.specs.declared.MaybeAddress.{MaybeAddress}
-use Rattle.btor2_list.specs.declared.MaybeAddress.TheVariants.{Address, NoAddress}
+use Rattle.std.specs.Prelude.{ℕ, cond, List, ltb, length, Option, Some, None}
 use Rattle.btor2_list.specs.Look.{address_at}
 use Rattle.state.specs.declared.room.Room.{Room}
 use Rattle.print.specs.Printing.{PrintAnswer, refused, written, printing}
 use Rattle.start.specs.Start.{start_refusal}
 use Rattle.state.specs.Words.{state_words, state_in}
-use Rattle.evaluation.specs.declared.Evaluated.{Evaluated}
-use Rattle.evaluation.specs.declared.Evaluated.TheVariants.{Refused, Value}
+use Rattle.evaluation.specs.Answer.{Evaluated, Refused, Value}
 use Rattle.evaluation.specs.Evaluation.{evaluated}
 
 -- ---- printing
@@ -67,9 +64,9 @@ abbrev pub given_address : ℕ → ℕ → GivenAddress
 given_address n a = record { there = n; address = a }
 
 -- where there is none, the address is left as it was
-abbrev pub address_numbers : MaybeAddress → ℕ → GivenAddress
-address_numbers (Address a) before = given_address 1 a
-address_numbers NoAddress before = given_address 0 before
+abbrev pub address_numbers : Option ℕ → ℕ → GivenAddress
+address_numbers (Some a) before = given_address 1 a
+address_numbers None before = given_address 0 before
 
 abbrev pub host_address : List ℕ → ℕ → ℕ → ℕ → GivenAddress
 host_address ws lines place before = address_numbers (address_at ws lines place) before

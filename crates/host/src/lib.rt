@@ -1,4 +1,5 @@
-// The library for a host in C or Rust. A slice is a pointer and a length there; the state is 85 words that the host keeps.
+// The library for a host in C or Rust. A slice is a pointer and a length there; the state is 85 words that the host keeps. Each function has a
+// parameter for each of these, however many they are, since that is the interface for C.
 #![tactic(auto)]
 
 ghost use Rattle.std.specs.Prelude.{◌≡◌, length};
@@ -11,12 +12,12 @@ ghost use Rattle.join.specs.Words.{given_join, joining_words};
 ghost use Rattle.host.specs.Host.{given_text, host_printing, host_check, given_numbers, host_evaluation, given_address, host_address};
 
 use btor2::NodeRef;
-use btor2_list::MaybeAddress;
-use evaluation::Evaluated;
-use join::Asked;
-use print::Printed;
+use join::{Asked, JoinInput, JoinLent};
+use line_text::{Areas, Listing};
+use lowering::{Lent, LowerCall};
+use refusals::{Refusal, number_or_zero};
 use riscv::Instruction;
-use state::{BAD_COUNT, STATE_WORDS};
+use state::STATE_WORDS;
 
 // Lowers the instruction `kind`, `rd`, `rs1`, `rs2`, `imm` at an address under a flag. Gives the number of the refusal, or 0. A refused call
 // changes nothing.
@@ -38,24 +39,25 @@ pub extern "C" fn lanthanumbat_lower(
 ) -> u64
     ensures { given result (lent list.new names.new edges.new dispatches.new bads.new) state.new ≡ lowering_words (lent list.old names.old edges.old dispatches.old bads.old) state.old (record { kind = kind; rd = rd; rs1 = rs1; rs2 = rs2; imm = imm }) address (record { 0 = flag }) }
 {
-    let i = Instruction {
-        kind,
-        rd,
-        rs1,
-        rs2,
-        imm,
-    };
-    lowering_calls::lower_words(
+    let mut lent = Lent {
         list,
         names,
         edges,
         dispatches,
         bads,
-        state,
-        i,
+    };
+    let call = LowerCall {
+        instruction: Instruction {
+            kind,
+            rd,
+            rs1,
+            rs2,
+            imm,
+        },
         address,
-        NodeRef(flag),
-    )
+        flag: NodeRef(flag),
+    };
+    number_or_zero(lowering_calls::lower_words(&mut lent, state, call))
 }
 
 // Lowers call after call, seven words each: address, kind, rd, rs1, rs2, imm, flag. Stops at the first that is refused: gives how many were
@@ -73,8 +75,15 @@ pub extern "C" fn lanthanumbat_lower_all(
 ) -> usize
     ensures { given_all result refusal.new (lent list.new names.new edges.new dispatches.new bads.new) state.new ≡ lowering_all_words (lent list.old names.old edges.old dispatches.old bads.old) state.old calls.now }
 {
-    let stopped = lowering_calls::lower_all(list, names, edges, dispatches, bads, state, calls);
-    *refusal = stopped.refusal;
+    let mut lent = Lent {
+        list,
+        names,
+        edges,
+        dispatches,
+        bads,
+    };
+    let stopped = lowering_calls::lower_all(&mut lent, state, calls);
+    *refusal = stopped.refusal.map_or(0, |r| r.number());
     stopped.done
 }
 
@@ -100,30 +109,33 @@ pub extern "C" fn lanthanumbat_join(
 ) -> u64
     ensures { given_join result flow.new used.new (join_lent list.new names.new sequentials.new) state.new ≡ joining_words (join_lent list.old names.old sequentials.old) state.old used.old (join_input edges.now dispatches.now flags.now dynamics.now (record { edges = count; dispatches = dispatched; flags = flagged; mode = record { 0 = mode }; none = record { 0 = none }; flow = record { 0 = flow.old } })) }
 {
-    let a = Asked {
-        edges: count,
-        dispatches: dispatched,
-        flags: flagged,
-        mode: NodeRef(mode),
-        none: NodeRef(none),
-        flow: NodeRef(*flow),
-    };
-    let joined = join_calls::join_words(
+    let mut lent = JoinLent {
         list,
         names,
         sequentials,
-        state,
+    };
+    let input = JoinInput {
         edges,
         dispatches,
         flags,
         dynamics,
-        a,
-        *used,
-    );
-    let place = joined.flow;
-    *flow = place.0;
-    *used = joined.sequentials;
-    joined.refusal
+        asked: Asked {
+            edges: count,
+            dispatches: dispatched,
+            flags: flagged,
+            mode: NodeRef(mode),
+            none: NodeRef(none),
+            flow: NodeRef(*flow),
+        },
+    };
+    match join_calls::join_words(&mut lent, state, &input, *used) {
+        Ok(joined) => {
+            *flow = joined.flow.0;
+            *used = joined.sequentials;
+            0
+        }
+        Err(refusal) => refusal.number(),
+    }
 }
 
 // Puts the `count` lines from place `from` on, of a list of this many lines, at the output's start. Gives the number of the refusal, or 0, and
@@ -141,14 +153,16 @@ pub extern "C" fn lanthanumbat_print<'a>(
 ) -> u64
     ensures { given_text result written.new out.new ≡ host_printing list.now lines host.now ours.now from count out.old }
 {
-    match print::print(list, lines, host, ours, from, count, out) {
-        Printed::Refused(number) => {
-            *written = 0;
-            number
-        }
-        Printed::Written(n) => {
+    let areas = Areas { host, ours };
+    let listing = Listing { list, lines, areas };
+    match print::print(&listing, from, count, out) {
+        Ok(n) => {
             *written = n as u64;
             0
+        }
+        Err(refusal) => {
+            *written = 0;
+            refusal.number()
         }
     }
 }
@@ -167,10 +181,10 @@ pub extern "C" fn lanthanumbat_check_start(
     ensures { result ≡ host_check list.now (length host.now) (room_of (length list.now) (length names.now) (length edges.now) (length dispatches.now) (length bads.now)) state.now }
 {
     if state.len() < STATE_WORDS {
-        return BAD_COUNT;
+        return Refusal::BadCount.number();
     }
     let given = state::state_in(state);
-    start::check_start(list, host, names, edges, dispatches, bads, given)
+    number_or_zero(start::check_start(list, host, names, edges, dispatches, bads, given))
 }
 
 // Evaluates the line at a place of a list of this many lines on given values, records of node and value, and of node, address and word. Gives
@@ -188,12 +202,12 @@ pub extern "C" fn lanthanumbat_evaluate(
     ensures { given_numbers result value.new visits.new ≡ host_evaluation list.now lines values.now memory.now asked value.old visits.old }
 {
     match evaluation_calls::evaluate(list, lines, values, memory, NodeRef(asked)) {
-        Evaluated::Refused(number) => number,
-        Evaluated::Value(x, n) => {
-            *value = x;
-            *visits = n;
+        Ok(evaluated) => {
+            *value = evaluated.value;
+            *visits = evaluated.visits;
             0
         }
+        Err(refusal) => refusal.number(),
     }
 }
 
@@ -209,10 +223,10 @@ pub extern "C" fn lanthanumbat_address(
     ensures { given_address result address.new ≡ host_address list.now lines place address.old }
 {
     match btor2_list::address_at(list, lines, NodeRef(place)) {
-        MaybeAddress::Address(a) => {
+        Some(a) => {
             *address = a;
             1
         }
-        MaybeAddress::NoAddress => 0,
+        None => 0,
     }
 }

@@ -1,4 +1,5 @@
 -- Joins on a small start, computed: what each refuses, and what an accepted one gives. Assumes nothing.
+use Rattle.std.specs.Prelude.{None}
 use Prim.Native.Nat.{ℕ, ◌+◌, ◌/◌}
 use mathlib.Core.Path.{◌≡◌, refl}
 use mathlib.Core.Bool.{Bool, true, ◌&&◌}
@@ -8,7 +9,6 @@ use lib.ListN.{length, replicate, take, drop}
 use Rattle.btor2.specs.declared.NodeRef.{NodeRef}
 use Rattle.btor2.specs.declared.NodeType.TheVariants.{Bit, Word, Memory}
 use Rattle.btor2.specs.Op.{Op, const, and, eq, ite, state, state_init, next, carried}
-use Rattle.btor2_list.specs.declared.MaybeAddress.TheVariants.{NoAddress}
 use Rattle.btor2_list.specs.Record.{words_for, words, record_at}
 use Rattle.btor2_list.specs.Node.{Node, node, line_of, op_of, no_name}
 use Rattle.btor2_list.specs.View.{view}
@@ -38,7 +38,7 @@ start_lines_lem = const Bit 0 ∷ const Bit 1 ∷ const Word 0 ∷ state Memory 
 
 stored : ℕ → List (Op ℕ) → List ℕ
 stored nid [] = []
-stored nid (o ∷ os) = words (line_of NoAddress nid o) ++ stored (nid + 1) os
+stored nid (o ∷ os) = words (line_of None nid o) ++ stored (nid + 1) os
 
 -- every word is the word, every bit the bit 0 but that of 1
 places : List NodeRef
@@ -103,15 +103,15 @@ unfolding got of table stored start_lines_lem places begun room asked regular br
 none = refl
 
 -- the first flag of 4; then the bit 1, by an ite; from a 0 that is not the zero bit's own place an ite too
-regulars : got (of (regular 4 ++ regular 8) [] 0) ≡ record { refusal = 0; nodes = node NoAddress 27 (ite Bit 1 1 4) ∷ []; flow = 7; nid = 28; names = []; sequentials = 7 ∷ [] }
+regulars : got (of (regular 4 ++ regular 8) [] 0) ≡ record { refusal = 0; nodes = node None 27 (ite Bit 1 1 4) ∷ []; flow = 7; nid = 28; names = []; sequentials = 7 ∷ [] }
 unfolding got of table stored start_lines_lem places begun room asked regular branch syscall view record_at op_of carried roles_fit records_in first_given names_of nexts_of join_program join_address join_edges join_dispatches from_edge control_flow_from_any control_flow_from_regular control_flow_from_branch control_flow_from_ecall control_flow_from_jalr lines_of ◌>>=◌ append_line append_listed flag_name numeral flags_out join_line_count join_room_out join_refusal join_settled joining
 regulars = refl
 
-zeros : got (of (regular 12 ++ branch 4 1) [] 0) ≡ record { refusal = 0; nodes = node NoAddress 27 (and Bit 4 1) ∷ []; flow = 7; nid = 28; names = []; sequentials = 7 ∷ [] }
+zeros : got (of (regular 12 ++ branch 4 1) [] 0) ≡ record { refusal = 0; nodes = node None 27 (and Bit 4 1) ∷ []; flow = 7; nid = 28; names = []; sequentials = 7 ∷ [] }
 unfolding got of table stored start_lines_lem places begun room asked regular branch syscall view record_at op_of carried roles_fit records_in first_given names_of nexts_of join_program join_address join_edges join_dispatches from_edge control_flow_from_any control_flow_from_regular control_flow_from_branch control_flow_from_ecall control_flow_from_jalr lines_of ◌>>=◌ append_line append_listed flag_name numeral flags_out join_line_count join_room_out join_refusal join_settled joining
 zeros = refl
 
-other_zero : got (of (regular 4) [] 5) ≡ record { refusal = 0; nodes = node NoAddress 27 (ite Bit 4 1 5) ∷ []; flow = 7; nid = 28; names = []; sequentials = 7 ∷ [] }
+other_zero : got (of (regular 4) [] 5) ≡ record { refusal = 0; nodes = node None 27 (ite Bit 4 1 5) ∷ []; flow = 7; nid = 28; names = []; sequentials = 7 ∷ [] }
 unfolding got of table stored start_lines_lem places begun room asked regular branch syscall view record_at op_of carried roles_fit records_in first_given names_of nexts_of join_program join_address join_edges join_dispatches from_edge control_flow_from_any control_flow_from_regular control_flow_from_branch control_flow_from_ecall control_flow_from_jalr lines_of ◌>>=◌ append_line append_listed flag_name numeral flags_out join_line_count join_room_out join_refusal join_settled joining
 other_zero = refl
 
@@ -120,14 +120,14 @@ syscalls : got (of (syscall 8) (31 ∷ 2 ∷ []) 4)
     ≡ record {
       refusal = 0;
       nodes =
-          node NoAddress 27 (state_init Bit 0 (record { area = our_area; at = 2; len = 21 }))
-          ∷ node NoAddress 29 (ite Bit 7 4 1)
-          ∷ node NoAddress 30 (next Bit 7 8)
-          ∷ node NoAddress 31 (and Bit 7 1)
-          ∷ node NoAddress 32 (ite Bit 10 1 4)
-          ∷ node NoAddress 33 (eq 2 2)
-          ∷ node NoAddress 34 (and Bit 4 12)
-          ∷ node NoAddress 35 (ite Bit 13 1 11)
+          node None 27 (state_init Bit 0 (record { area = our_area; at = 2; len = 21 }))
+          ∷ node None 29 (ite Bit 7 4 1)
+          ∷ node None 30 (next Bit 7 8)
+          ∷ node None 31 (and Bit 7 1)
+          ∷ node None 32 (ite Bit 10 1 4)
+          ∷ node None 33 (eq 2 2)
+          ∷ node None 34 (and Bit 4 12)
+          ∷ node None 35 (ite Bit 13 1 11)
           ∷ [];
       flow = 14;
       nid = 36;

@@ -1,21 +1,17 @@
 -- The room that edges leave, one after the other. Assumes nothing.
-use Prim.Native.Nat.{ℕ, ◌+◌, ◌-◌, ◌*◌, ◌≤◌, ◌<◌}
+use Prim.Native.Nat.{ℕ, ◌+◌, ◌-◌}
 use mathlib.Core.Path.{◌≡◌, refl, sym}
 use mathlib.Core.Bool.{Bool, true, false, ◌||◌, or_assoc, or-true, or-false}
 use mathlib.Core.List.{List, [], ◌∷◌}
 use native.Mathlib.Nat.{add_assoc, zero-add}
 use native.Mathlib.Omega.{arith}
 use borrow.Author.Tests.{lt-ltb, le-ltb, ltb-true, ltb-false}
+use Rattle.std.proofs.Common.{Some, None}
 use lib.Dec.{ltb}
-use lib.ListN.{length, length-append, get_or, drop}
-use lib.Seq.{get_or-drop}
-use Rattle.bitvec.proofs.Truth.{neither}
+use lib.ListN.{length, length-append}
 use Rattle.join.specs.Program.{Edge, edge_name, names_of, nexts_by, nexts_of}
-use Rattle.join.specs.Given.{edge_in, edges_in}
 use Rattle.join_calls.specs.declared.room.Left.{Left}
-use Rattle.join_calls.specs.Room.{edge_lines, edges_lines, zero_after, zero_after_all, dispatch_lines, edge_exceeds, left_after, exceeding}
-use Rattle.edges.specs.Edges.{edge_stride}
-use Rattle.btor2_list.proofs.Records.{records_next}
+use Rattle.join_calls.specs.Room.{edge_lines, edges_lines, zero_after, zero_after_all, dispatch_lines, edge_exceeds, left_after, left_after_edge, exceeding}
 
 -- a sum exceeds where its first part does, or where its second exceeds what the first leaves
 pub ltb-add : (a b c : ℕ) → ltb a (b + c) ≡ (ltb a b || ltb (a - b) c)
@@ -49,20 +45,17 @@ module _ (f : ℕ → Bool) (l : Left) where
   unfolding exceeding edges_lines zero_after_all names_of nexts_of
   exceeding_none n = rw (zero-add, le-ltb l.names 0 (omega arith), le-ltb l.sequentials 0 (omega arith)) (or-false _)
 
-  -- the next edge stands in the words after k others
-  pub exceeding_on : (n k : ℕ) (ws : List ℕ) (d : ℕ) → k < n
-      → exceeding f l (edges_in (n - k) (drop (k * 4) ws)) d ≡ (edge_exceeds l (get_or ws (k * 4 + 2) 0) (get_or ws (k * 4 + 1) 0)
-      || exceeding f (left_after l (get_or ws (k * 4 + 2) 0) (get_or ws (k * 4 + 1) 0) (f (get_or ws (k * 4 + 1) 0))) (edges_in (n - (k + 1)) (drop ((k + 1) * 4) ws)) d)
-  exceeding_on n k ws d h = rw (records_next edge_stride edge_in n k ws h, get_or-drop (k * 4) ws 1 0, get_or-drop (k * 4) ws 2 0) (exceeding_next _ _ d)
+  -- where there is no room for an edge, and where there is
+  pub exceeded : (x : Edge ℕ) (xs : List (Edge ℕ)) (n : ℕ) → None ≡ left_after_edge l x.origin x.from (f x.from) → true ≡ exceeding f l (x ∷ xs) n
+  exceeded x xs n e = rw (exceeding_next x xs n) (go (edge_exceeds l x.origin x.from) refl)
+    where
+      go : (b : Bool) → edge_exceeds l x.origin x.from ≡ b → true ≡ (edge_exceeds l x.origin x.from || exceeding f (left_after l x.origin x.from (f x.from)) xs n)
+      go true h = rw h
+      go false h = absurd (cc (rw h at e))
 
--- an edge that does not exceed has room for each of its parts
-pub record RoomyEdge (l : Left) (origin from : ℕ) : Type 0 where
-  pub lines : edge_lines origin l.zero ≤ l.lines
-  pub names : length (edge_name origin from) ≤ l.names
-  pub sequentials : nexts_by origin ≤ l.sequentials
-
-pub roomy : (l : Left) (origin from : ℕ) → edge_exceeds l origin from ≡ false → RoomyEdge l origin from
-roomy l origin from h =
-    let p = neither _ _ h in
-    let q = neither _ _ p.1 in
-    record { lines = ltb-false _ _ p.0; names = ltb-false _ _ q.0; sequentials = ltb-false _ _ q.1 }
+  pub left_over : (x : Edge ℕ) (xs : List (Edge ℕ)) (n : ℕ) {r : Left} → Some r ≡ left_after_edge l x.origin x.from (f x.from) → exceeding f r xs n ≡ exceeding f l (x ∷ xs) n
+  left_over x xs n {r} e = rw (exceeding_next x xs n) (go (edge_exceeds l x.origin x.from) refl)
+    where
+      go : (b : Bool) → edge_exceeds l x.origin x.from ≡ b → exceeding f r xs n ≡ (edge_exceeds l x.origin x.from || exceeding f (left_after l x.origin x.from (f x.from)) xs n)
+      go true h = absurd (cc (rw h at e))
+      go false h = let same : Some r ≡ Some (left_after l x.origin x.from (f x.from)) = rw h at e in let is : r ≡ left_after l x.origin x.from (f x.from) = cc in rw (h, is)

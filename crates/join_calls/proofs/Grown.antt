@@ -170,7 +170,7 @@ counted st g below =
 
 pub exceeds_room : (l : JoinLent) (h : JoinHeld) (g : JoinInput) → zero_in h.state < h.state.tally.lines → h.state.tally.lines ≤ most_lines → h.state.tally.lines ≤ capacity (length l.list)
     → h.state.counts.names ≤ length l.names → h.sequentials ≤ length l.sequentials
-    → exceeding (λ a. eqb (flag_of g a) (zero_in h.state)) (left_of (capacity (length l.list)) (length l.names) (length l.sequentials) h g.asked) (edges_of g) g.asked.dispatches ≡ join_room_out l h g
+    → exceeding (λ a. eqb (flag_of g a) (zero_in h.state)) (left_of l h g.asked.flow) (edges_of g) g.asked.dispatches ≡ join_room_out l h g
 unfolding exceeding join_room_out
 exceeds_room l h g below most room names sequentials =
     rw (counted h.state g below)

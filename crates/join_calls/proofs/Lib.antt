@@ -1,6 +1,6 @@
-pub mod Going
-pub mod Tests
-pub mod Settled
+pub mod InChunks
 pub mod Exceeding
 pub mod Grown
 pub mod Entry
+pub mod Going
+pub mod Settled

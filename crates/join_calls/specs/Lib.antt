@@ -1,3 +1,5 @@
+pub mod Records
 pub mod Steps
 pub mod Room
 pub mod Entry
+pub mod Answer

@@ -1,5 +1,5 @@
 -- What a join appends, counted by its edges' origins, for private functions.
-use Rattle.std.specs.Prelude.{ℕ, ◌+◌, ◌*◌, ◌-◌, Bool, false, cond, ◌&&◌, ◌||◌, List, [], ◌∷◌, eqb, ltb, length}
+use Rattle.std.specs.Prelude.{ℕ, ◌+◌, ◌*◌, ◌-◌, Bool, false, cond, ◌&&◌, ◌||◌, List, [], ◌∷◌, eqb, ltb, length, Option, None, Some}
 use Rattle.edges.specs.Edges.{branch_origin, syscall_origin}
 use Rattle.join.specs.Program.{Edge, edge_name, names_of, nexts_by, nexts_of}
 use Rattle.join_calls.specs.declared.room.Left.{Left}
@@ -42,6 +42,9 @@ left_after l origin from flag_is_zero = record {
   sequentials = l.sequentials - nexts_by origin;
   zero = zero_after origin l.zero flag_is_zero;
 }
+
+abbrev pub left_after_edge : Left → ℕ → ℕ → Bool → Option Left
+left_after_edge l origin from flag_is_zero = cond (edge_exceeds l origin from) None (Some (left_after l origin from flag_is_zero))
 
 -- edges and dispatches append more than there is room for
 unfoldable pub exceeding : (ℕ → Bool) → Left → List (Edge ℕ) → ℕ → Bool

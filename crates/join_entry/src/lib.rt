@@ -1,61 +1,52 @@
-// The join with one address's in-edges in a lent slice of records. Their words are put into words that the host lends, and the core, over
-// number slices, does the work.
+// The join with one address's in-edges in a slice of records. Their words are put into words that the host lends, and the core, over number
+// slices, does the work.
 #![tactic(auto)]
 
-ghost use Rattle.std.specs.Prelude.{◌≡◌, ◌+◌, ◌*◌, ◌≤◌, length, take};
+ghost use Rattle.std.specs.Prelude.{◌≡◌, ◌+◌, ◌*◌, ◌≤◌, length};
 ghost use Rattle.std.proofs.lemmas.List.Edits.{sets};
 ghost use Rattle.edges.specs.Edges.{edge, edge_stride};
-ghost use Rattle.join.specs.Refusal.{join_lent, join_input};
-ghost use Rattle.join.specs.Join.{join_answer};
 ghost use Rattle.edges.specs.InEdges.{edge_words};
+ghost use Rattle.join.specs.Code.{lists_lent, SameJoinLent, join_answered};
+ghost use Rattle.join_entry.specs.Parts.{lists_recorded};
 ghost use Rattle.join_entry.specs.Records.{with_words, joining_records};
-ghost use Rattle.join_entry.specs.Parts.{put_count, EdgesFit, joining_within};
 
 use edges::{EDGE, InEdge};
-use join::{Asked, JoinHeld, Joined};
-use state::BAD_COUNT;
+use join::{JoinHeld, JoinInput, JoinLent, Joined};
+use refusals::Refusal;
 
 // Joins as `join_calls::join` does, with one address's edges in a slice of records. `words` is room for four words an edge, which the call may
 // use; fewer are refusal 9, and so are more edges than there are records. Any call but one refused for these leaves its edges' words in front.
 pub fn join(
-    list: &mut [u64],
-    names: &mut [u8],
-    sequentials: &mut [u64],
-    edges: &[InEdge],
+    lent: &mut JoinLent,
+    input: &JoinInput<InEdge>,
     words: &mut [u64],
-    dispatches: &[u64],
-    flags: &[u64],
-    dynamics: &[u64; 31],
-    a: Asked,
-    h: JoinHeld,
-) -> Joined
-    ensures { with_words (join_answer result.refusal result.flow.0 result.held (join_lent list.new names.new sequentials.new)) words.new ≡ joining_records (join_lent list.old names.old sequentials.old) h edges.now words.old dispatches.now flags.now dynamics.now a }
+    held: JoinHeld,
+) -> Result<Joined, Refusal>
+    ensures is { with_words (join_answered held (lists_recorded input.now) result (lists_lent lent.new)) words.new ≡ joining_records (lists_lent lent.old) held input.now.edges.now words.old input.now.dispatches.now input.now.flags.now input.now.dynamics.now input.now.asked }
+    ensures same { SameJoinLent lent.old lent.new }
 {
-    let count = put_count(edges.len(), words.len(), a);
-    put_words(edges, count, words);
-    join_apart(
-        list,
-        names,
-        sequentials,
-        count,
-        words,
-        dispatches,
-        flags,
-        dynamics,
-        a,
-        h,
-    )
+    let count = input.asked.edges;
+    if (input.edges.len() < count) | (words.len() / EDGE < count) {
+        return Err(Refusal::BadCount);
+    }
+    put_words(&input.edges[..count], words);
+    let given = JoinInput {
+        edges: words,
+        dispatches: input.dispatches,
+        flags: input.flags,
+        dynamics: input.dynamics,
+        asked: input.asked,
+    };
+    join_calls::join(lent, &given, held)
 }
 
-// Puts the words of the first `count` records, four each, into `words`, which hold them.
-fn put_words(edges: &[InEdge], count: usize, words: &mut [u64])
-    requires { EdgesFit count edges.now words.old }
-    ensures { words.new ≡ sets words.old 0 (edge_words (take count edges.now)) }
+// Puts the words of the records, four each, into `words`, which hold them.
+fn put_words(edges: &[InEdge], words: &mut [u64])
+    requires { length edges.now * edge_stride ≤ length words.old }
+    ensures { words.new ≡ sets words.old 0 (edge_words edges.now) }
 {
-    let mut place = 0;
-    while place < count {
-        put_edge(words, place, edges[place]);
-        place += 1;
+    for (place, edge) in edges.iter().enumerate() {
+        put_edge(words, place, *edge);
     }
 }
 
@@ -65,55 +56,8 @@ fn put_edge(words: &mut [u64], place: usize, e: InEdge)
     ensures { words.new ≡ sets words.old (place * edge_stride) (edge e.to e.from e.origin e.condition.0) }
 {
     let b = place * EDGE;
-    let condition = e.condition;
     words[b] = e.to;
     words[b + 1] = e.from;
     words[b + 2] = e.origin;
-    words[b + 3] = condition.0 as u64;
-}
-
-// How many records are put into so many words: those asked for, or none where the call is refused.
-fn put_count(records: usize, words: usize, a: Asked) -> usize
-    ensures { result ≡ put_count records words a }
-{
-    if (records < a.edges) | (words / EDGE < a.edges) {
-        return 0;
-    }
-    a.edges
-}
-
-// Joins by the core, with `count` edges in words; fewer than are asked for are refusal 9.
-fn join_apart(
-    list: &mut [u64],
-    names: &mut [u8],
-    sequentials: &mut [u64],
-    count: usize,
-    words: &[u64],
-    dispatches: &[u64],
-    flags: &[u64],
-    dynamics: &[u64; 31],
-    a: Asked,
-    h: JoinHeld,
-) -> Joined
-    ensures { join_answer result.refusal result.flow.0 result.held (join_lent list.new names.new sequentials.new) ≡ joining_within count (join_lent list.old names.old sequentials.old) h (join_input words.now dispatches.now flags.now dynamics.now a) }
-{
-    if count < a.edges {
-        let flow = a.flow;
-        return Joined {
-            refusal: BAD_COUNT,
-            flow,
-            held: h,
-        };
-    }
-    join_calls::join(
-        list,
-        names,
-        sequentials,
-        words,
-        dispatches,
-        flags,
-        dynamics,
-        a,
-        h,
-    )
+    words[b + 3] = e.condition.0 as u64;
 }

@@ -1,4 +1,5 @@
 -- An accepted join: its lines stand after the others, and its flow means what it should. Assumes nothing.
+use Rattle.std.specs.Prelude.{None}
 use Prim.Native.Nat.{ℕ, zero, suc, ◌+◌, ◌-◌, ◌≤◌, ◌<◌}
 use native.Mathlib.Omega.{arith}
 use native.Mathlib.Nat.{add-zero}
@@ -17,7 +18,6 @@ use Rattle.btor2.proofs.LineIs.{line_is}
 use Rattle.btor2.specs.Value.{Env}
 use Rattle.btor2.proofs.Range.{value_fits}
 use Rattle.btor2.proofs.SortRule.{line_kept}
-use Rattle.btor2_list.specs.declared.MaybeAddress.TheVariants.{NoAddress}
 use Rattle.btor2_list.specs.Record.{capacity, words_for}
 use Rattle.btor2_list.specs.View.{view}
 use Rattle.btor2_list.proofs.Stored.{below, above}
@@ -61,12 +61,12 @@ use Rattle.join_laws.proofs.Sorts as S
 
 -- ---- a run by the append, as a run on the lines
 
-pub laid_pushed : {X : Type 0} (p : Prog ℕ X) (m : ℕ) (ws : List ℕ) (t : Tally) (r : Run Store X) → Laid NoAddress t.lines 0 m ws t p r
+pub laid_pushed : {X : Type 0} (p : Prog ℕ X) (m : ℕ) (ws : List ℕ) (t : Tally) (r : Run Store X) → Laid None t.lines 0 m ws t p r
     → ran (operators r.state.words r.state.tally.lines) r.value ≡ pushed (operators ws t.lines) p
 unfolding operators
 laid_pushed {X} p m ws t r l =
     ap (λ (v : List _). ran (map (λ line. line.op) v) r.value) l.nodes
-    ∙ ap (λ v. ran v r.value) (map-append (view ws t.lines) (numbered NoAddress t.nid L) ∙ ap (λ os. xs ++ os) (numbered_operators NoAddress t.nid L))
+    ∙ ap (λ v. ran v r.value) (map-append (view ws t.lines) (numbered None t.nid L) ∙ ap (λ os. xs ++ os) (numbered_operators None t.nid L))
     ∙ ap (λ x. ran (xs ++ L) x) l.value
     ∙ sym (pushed_lines p xs t.lines 0 (operators-length ws t.lines ∙ sym (add-zero _)))
   where
@@ -112,10 +112,10 @@ module _ (l : JoinLent) (h : JoinHeld) (g : JoinInput) (e : join_refusal l h g �
         nids = omega (arith, its.counts.nids, ltb-false most_lines (lines + join_line_count h.state g) p.0, taking_most (lines_of (place_after lines) 0 (join_program h.state g)));
       }
 
-  pub its_run : Laid NoAddress lines 0 (join_line_count h.state g) l.list h.state.tally (join_program h.state g) (exec append (at l.list h.state.tally) (join_program h.state g))
+  pub its_run : Laid None lines 0 (join_line_count h.state g) l.list h.state.tally (join_program h.state g) (exec append (at l.list h.state.tally) (join_program h.state g))
   unfolding join_line_count join_program
   its_run =
-      laid NoAddress (join_program h.state g) lines 0 l.list h.state.tally (sym (add-zero _)) room
+      laid None (join_program h.state g) lines 0 l.list h.state.tally (sym (add-zero _)) room
       (fit_lines (joined (bits_in h.state) (kernel_in g) (flag_of g) (λ r. (register_node h.state.roles r).0) (dynamic_for g.dynamics) h.state.counts.names (edges_of g) (dispatches_of g) g.asked.flow.0) (place_after lines) 0)
 
 -- an accepted join's lines, whatever the lines before are
@@ -126,10 +126,10 @@ module _ (l : JoinLent) (h : JoinHeld) (g : JoinInput) (e : join_refusal l h g �
   its_store : ran (exec append_listed (join_store l h) (join_program h.state g)).state.store (exec append_listed (join_store l h) (join_program h.state g)).value ≡ exec append (at l.list h.state.tally) (join_program h.state g)
   its_store = forgets (join_program h.state g) (join_store l h)
 
-  pub nodes_after : view (joining l h g).lent.list (joining l h g).held.state.tally.lines ≡ view l.list h.state.tally.lines ++ numbered NoAddress h.state.tally.nid its_lines
+  pub nodes_after : view (joining l h g).lent.list (joining l h g).held.state.tally.lines ≡ view l.list h.state.tally.lines ++ numbered None h.state.tally.nid its_lines
   unfolding joining join_settled
   nodes_after = rw (eq-eqb (join_refusal l h g) 0 e)
-      (subst (λ (r : Run Store ℕ). view r.state.words r.state.tally.lines ≡ view l.list h.state.tally.lines ++ numbered NoAddress h.state.tally.nid its_lines) (sym its_store) (its_run l h g e).nodes)
+      (subst (λ (r : Run Store ℕ). view r.state.words r.state.tally.lines ≡ view l.list h.state.tally.lines ++ numbered None h.state.tally.nid its_lines) (sym its_store) (its_run l h g e).nodes)
 
   pub stored_after : words_for (joining l h g).held.state.tally.lines ≤ length (joining l h g).lent.list
   unfolding joining join_settled

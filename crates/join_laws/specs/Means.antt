@@ -1,9 +1,8 @@
 -- What an accepted join does to the list and what its flow means.
-use Rattle.std.specs.Prelude.{ℕ, ◌+◌, ◌≤◌, ◌≡◌, true, ◌||◌, List, ◌++◌, T, length}
+use Rattle.std.specs.Prelude.{ℕ, ◌+◌, ◌≤◌, ◌≡◌, true, ◌||◌, List, ◌++◌, T, length, None}
 use Rattle.btor2.specs.Op.{Op}
 use Rattle.btor2.specs.SortRule.{meets_sort_rule}
 use Rattle.btor2.specs.Value.{Env, value}
-use Rattle.btor2_list.specs.declared.MaybeAddress.TheVariants.{NoAddress}
 use Rattle.btor2_list.specs.Record.{words_for}
 use Rattle.btor2_list.specs.View.{view}
 use Rattle.list_check.specs.Lines.{any}
@@ -36,7 +35,7 @@ module _ (l : JoinLent) (h : JoinHeld) (g : JoinInput) where
     pub refusal : a.refusal ≡ 0
     -- the lines of the join's program after those that stand, under the next identifiers
     pub nodes : view a.lent.list a.held.state.tally.lines
-        ≡ view l.list h.state.tally.lines ++ numbered NoAddress h.state.tally.nid (lines_of (place_after h.state.tally.lines) 0 (join_program h.state g))
+        ≡ view l.list h.state.tally.lines ++ numbered None h.state.tally.nid (lines_of (place_after h.state.tally.lines) 0 (join_program h.state g))
     pub lines : a.held.state.tally.lines ≡ h.state.tally.lines + join_line_count h.state g
     pub nids : a.held.state.tally.nid ≡ h.state.tally.nid + taking (lines_of (place_after h.state.tally.lines) 0 (join_program h.state g))
     pub roles : a.held.state.roles ≡ h.state.roles

@@ -1,16 +1,13 @@
--- Records by their kinds and by their operands, the number of a sort, and a State's rows. Assumes nothing.
-use Rattle.std.proofs.Common.{◌≡◌, ℕ, ◌+◌, ◌%◌, ◌^◌, Bool, true, false, cond, eqb, List, [], ◌∷◌, ◌++◌, sym, refl, ap, ◌∙◌, append-nil, arith, eqb-true}
+-- Records by their kinds and by their operands, the number of a sort, a sort that is unknown, and a State's rows. Assumes nothing.
+use Rattle.std.proofs.Common.{◌≡◌, ℕ, ◌+◌, ◌%◌, ◌^◌, Bool, true, false, true≢false, cond, ◌||◌, eqb, List, [], ◌∷◌, ◌++◌, sym, refl, ap, ◌∙◌, append-nil, arith, eqb-true, Option, Some, None}
 use Rattle.btor2.specs.declared.NodeType.{NodeType}
-use Rattle.btor2.specs.declared.MaybeSort.{MaybeSort}
-use Rattle.btor2.specs.declared.MaybeSort.TheVariants.{Sort, NoSort}
 use Rattle.btor2.specs.Sort.{sort_number, first_numbered, sorts, sort_numbered}
 use Rattle.btor2.specs.declared.Name.{Name}
-use Rattle.btor2.specs.Op.{Op, state, state_init, map_op}
+use Rattle.btor2.specs.Op.{Op, state, state_init, unknown, map_op}
 use Rattle.btor2_list.specs.declared.Line.{Line}
-use Rattle.btor2_list.specs.Node.{with_sort, op_of}
-use Rattle.row_text.specs.Words.{kind_word}
-use Rattle.row_text.specs.Row.{row_text}
-use Rattle.line_text.specs.Record.{line_text, with_operands}
+use Rattle.btor2_list.specs.Node.{with_sort, operator_at, operators_by_kind, op_of}
+use Rattle.line_text.specs.OwnSort.{own_sort}
+use Rattle.line_text.specs.Record.{plain_row, named_row, line_text, with_operands}
 
 -- a record with another kind
 abbrev pub of_kind : ℕ → Line → Line
@@ -18,28 +15,72 @@ of_kind k l = record { nid = l.nid; kind = k; sort = l.sort; op1 = l.op1; op2 = 
 
 -- ---- the number of a sort
 
-one_number : (t s : NodeType) (n : ℕ) (rest : MaybeSort) → (rest ≡ Sort s → sort_number s ≡ n) → (b : Bool) → eqb n (sort_number t) ≡ b
-    → cond b (Sort t) rest ≡ Sort s → sort_number s ≡ n
+one_number : (t s : NodeType) (n : ℕ) (rest : Option NodeType) → (rest ≡ Some s → sort_number s ≡ n) → (b : Bool) → eqb n (sort_number t) ≡ b
+    → cond b (Some t) rest ≡ Some s → sort_number s ≡ n
 one_number t s n rest others true h e = let i : t ≡ s = cc in ap sort_number (sym i) ∙ sym (eqb-true n (sort_number t) h)
 one_number t s n rest others false h e = others e
 
-first_number : (ss : List NodeType) (s : NodeType) (n : ℕ) → first_numbered ss n ≡ Sort s → sort_number s ≡ n
+first_number : (ss : List NodeType) (s : NodeType) (n : ℕ) → first_numbered ss n ≡ Some s → sort_number s ≡ n
 first_number [] s n e = let z : ◌≡◌ {A = ℕ} 0 1 = cc in absurd (omega arith)
 first_number (t ∷ ss) s n e = one_number t s n (first_numbered ss n) (first_number ss s n) (eqb n (sort_number t)) refl e
 
-pub number_of : (s : NodeType) (n : ℕ) → sort_numbered n ≡ Sort s → sort_number s ≡ n
+pub number_of : (s : NodeType) (n : ℕ) → sort_numbered n ≡ Some s → sort_number s ≡ n
 number_of s n e = first_number sorts s n e
+
+-- ---- a sort that is unknown
+
+-- a kind that has a sort of its own, the last of these, and one that has none
+own_kind : (test rest : Bool) (p : Op ℕ) → (rest ≡ true → p ≡ unknown) → (test || rest) ≡ true → cond test unknown p ≡ unknown
+own_kind true rest p others h = refl
+own_kind false rest p others h = others h
+
+last_kind : (test : Bool) (p : Op ℕ) → test ≡ true → cond test unknown p ≡ unknown
+last_kind true p h = refl
+last_kind false p h = absurd (true≢false (sym h))
+
+other_kind : (test own : Bool) (o p : Op ℕ) → (test ≡ true → own ≡ false) → (own ≡ true → p ≡ unknown) → own ≡ true → cond test o p ≡ unknown
+other_kind true own o p off others h = absurd (true≢false (sym h ∙ off refl))
+other_kind false own o p off others h = others h
+
+module _ (l : Line) (k : ℕ) where
+  of_no_sort : own_sort k ≡ true → operator_at (operators_by_kind None l) 1 k ≡ unknown
+  of_no_sort =
+      own_kind (eqb k 1) _ _
+      (other_kind (eqb k 2) _ _ _ (λ e. rw (eqb-true k 2 e))
+      (other_kind (eqb k 3) _ _ _ (λ e. rw (eqb-true k 3 e))
+      (other_kind (eqb k 4) _ _ _ (λ e. rw (eqb-true k 4 e))
+      (other_kind (eqb k 5) _ _ _ (λ e. rw (eqb-true k 5 e))
+      (other_kind (eqb k 6) _ _ _ (λ e. rw (eqb-true k 6 e))
+      (other_kind (eqb k 7) _ _ _ (λ e. rw (eqb-true k 7 e))
+      (other_kind (eqb k 8) _ _ _ (λ e. rw (eqb-true k 8 e))
+      (other_kind (eqb k 9) _ _ _ (λ e. rw (eqb-true k 9 e))
+      (other_kind (eqb k 10) _ _ _ (λ e. rw (eqb-true k 10 e))
+      (other_kind (eqb k 11) _ _ _ (λ e. rw (eqb-true k 11 e))
+      (other_kind (eqb k 12) _ _ _ (λ e. rw (eqb-true k 12 e))
+      (own_kind (eqb k 13) _ _
+      (own_kind (eqb k 14) _ _
+      (other_kind (eqb k 15) _ _ _ (λ e. rw (eqb-true k 15 e))
+      (own_kind (eqb k 16) _ _
+      (own_kind (eqb k 17) _ _
+      (own_kind (eqb k 18) _ _
+      (own_kind (eqb k 19) _ _
+      (own_kind (eqb k 20) _ _
+      (last_kind (eqb k 21) _))))))))))))))))))))
+
+pub unsorted_unknown : (l : Line) → own_sort l.kind ≡ true → sort_numbered l.sort ≡ None → op_of l ≡ unknown
+unfolding op_of
+unsorted_unknown l own e = rw e (of_no_sort l l.kind own)
 
 -- ---- the text of a State
 
 module _ (names : Name → List ℕ) (l : Line) (a b c : ℕ) where
   abbrev row : List ℕ
-  row = row_text l.nid.0 (kind_word 19) (l.sort ∷ []) true (names l.name)
+  row = named_row l.nid.0 "state" l.sort (names l.name)
 
   abbrev init : List ℕ
-  init = row_text ((l.nid.0 + 1) % 2 ^ 64) (kind_word 0) (l.sort ∷ l.nid.0 ∷ a ∷ []) false []
+  init = plain_row ((l.nid.0 + 1) % 2 ^ 64) "init" (l.sort ∷ l.nid.0 ∷ a ∷ [])
 
-  pub state_text : (s : NodeType) → l.kind ≡ 19 → sort_numbered l.sort ≡ Sort s
+  pub state_text : (s : NodeType) → l.kind ≡ 19 → sort_numbered l.sort ≡ Some s
       → row ++ cond (eqb l.imm 0) [] init ≡ line_text names l.nid.0 (op_of (with_operands l a b c))
   unfolding op_of line_text
   state_text s ek es = rw (ek, es) (go (eqb l.imm 0))
@@ -55,10 +96,10 @@ module _ (f : ℕ → ℕ) where
   either true o p o' p' h h' = h
   either false o p o' p' h h' = h'
 
-  own : (m : MaybeSort) (g g' : NodeType → Op ℕ) → ((s : NodeType) → g' s ≡ map_op f (g s)) → with_sort m g' ≡ map_op f (with_sort m g)
+  own : (m : Option NodeType) (g g' : NodeType → Op ℕ) → ((s : NodeType) → g' s ≡ map_op f (g s)) → with_sort m g' ≡ map_op f (with_sort m g)
   unfolding map_op
-  own (Sort s) g g' h = h s
-  own NoSort g g' h = refl
+  own (Some s) g g' h = h s
+  own None g g' h = refl
 
   pub by_identifiers : (l : Line) → op_of (with_operands l (f l.op1.0) (f l.op2.0) (f l.op3.0)) ≡ map_op f (op_of l)
   unfolding op_of map_op

@@ -1,9 +1,8 @@
 -- The lines of a list, as far as the words reach, by the tests of a lookup. Assumes nothing.
-use Rattle.std.proofs.Common.{◌≡◌, ℕ, ◌<◌, ◌≤◌, min, List, length, sym, ap, ◌∙◌, arith, le-ltb, lt-ltb}
+use Rattle.std.proofs.Common.{◌≡◌, ℕ, ◌<◌, ◌≤◌, min, List, length, sym, ap, ◌∙◌, arith, le-ltb, lt-ltb, Some, None}
 use native.Mathlib.Decide.{dec_le}
 use lib.ListN.{get_or-eq_default}
 use Rattle.btor2_list.specs.declared.Line.{Line}
-use Rattle.btor2_list.specs.declared.Found.TheVariants.{Line as found, Outside as Outside'}
 use Rattle.btor2_list.specs.Record.{record_at, get_at, field_at, capacity, first_lines}
 use Rattle.btor2_list.specs.Node.{Node, no_node, node_of}
 use Rattle.btor2_list.specs.View.{view}
@@ -36,24 +35,24 @@ module _ (ws : List ℕ) (n p : ℕ) where
 
   -- ---- the record at a place, by what getting it tells
 
-  pub got : (l : Line) → found l ≡ get_at ws p → p < n → node_at (nodes ws n) p ≡ node_of l
+  pub got : (l : Line) → Some l ≡ get_at ws p → p < n → node_at (nodes ws n) p ≡ node_of l
   got l e h = go (dec_le (capacity (length ws)) p)
     where
       go : Dec (capacity (length ws) ≤ p) → node_at (nodes ws n) p ≡ node_of l
-      go (yes k) = let o : found l ≡ Outside' = e ∙ rw (le-ltb p (capacity (length ws)) k) in let z : ◌≡◌ {A = ℕ} 0 1 = cc in absurd (omega arith)
+      go (yes k) = let o : Some l ≡ None = e ∙ rw (le-ltb p (capacity (length ws)) k) in let z : ◌≡◌ {A = ℕ} 0 1 = cc in absurd (omega arith)
       go (no k) =
           let m : p < capacity (length ws) = omega arith in
-          let o : found l ≡ found (record_at ws p) = e ∙ rw (lt-ltb p (capacity (length ws)) m) in
+          let o : Some l ≡ Some (record_at ws p) = e ∙ rw (lt-ltb p (capacity (length ws)) m) in
           let i : l ≡ record_at ws p = cc in inside h m ∙ ap node_of (sym i)
 
-  pub not_got : Outside' ≡ get_at ws p → length (nodes ws n) ≤ p
+  pub not_got : None ≡ get_at ws p → length (nodes ws n) ≤ p
   not_got e = go (dec_le (capacity (length ws)) p)
     where
       go : Dec (capacity (length ws) ≤ p) → length (nodes ws n) ≤ p
       go (yes k) = omega (arith, length-nodes)
       go (no k) =
           let m : p < capacity (length ws) = omega arith in
-          let o : Outside' ≡ found (record_at ws p) = e ∙ rw (lt-ltb p (capacity (length ws)) m) in
+          let o : None ≡ Some (record_at ws p) = e ∙ rw (lt-ltb p (capacity (length ws)) m) in
           let z : ◌≡◌ {A = ℕ} 0 1 = cc in absurd (omega arith)
 
 -- ---- in words that the list fills
@@ -66,11 +65,11 @@ module _ (ws : List ℕ) (p : ℕ) where
       go (yes k) = rw (le-ltb p (capacity (length ws)) k) (sym (nid_outside ws (capacity (length ws)) p (omega (arith, length-nodes ws (capacity (length ws)) p))))
       go (no k) = nid_held ws (capacity (length ws)) p (omega arith)
 
-  pub all_got : (l : Line) → found l ≡ get_at ws p → node_at (nodes ws (capacity (length ws))) p ≡ node_of l
+  pub all_got : (l : Line) → Some l ≡ get_at ws p → node_at (nodes ws (capacity (length ws))) p ≡ node_of l
   all_got l e = go (dec_le (capacity (length ws)) p)
     where
       go : Dec (capacity (length ws) ≤ p) → node_at (nodes ws (capacity (length ws))) p ≡ node_of l
-      go (yes k) = let o : found l ≡ Outside' = e ∙ rw (le-ltb p (capacity (length ws)) k) in let z : ◌≡◌ {A = ℕ} 0 1 = cc in absurd (omega arith)
+      go (yes k) = let o : Some l ≡ None = e ∙ rw (le-ltb p (capacity (length ws)) k) in let z : ◌≡◌ {A = ℕ} 0 1 = cc in absurd (omega arith)
       go (no k) = got ws (capacity (length ws)) p l e (omega arith)
 
 -- a list that is cut to its n lines

@@ -1,5 +1,5 @@
 -- A run is its first line and the run after it. Assumes nothing.
-use Rattle.std.proofs.Common.{◌≡◌, ℕ, zero, suc, ◌+◌, ◌-◌, ◌<◌, ◌≤◌, List, [], ◌++◌, length, sym, ap, ◌∙◌, add-one, arith, drop_of_length-le, drop-cons}
+use Rattle.std.proofs.Common.{◌≡◌, ℕ, zero, suc, ◌+◌, ◌-◌, ◌<◌, ◌≤◌, List, [], ◌++◌, length, sym, ap, ◌∙◌, append_assoc, append-nil, add-one, arith, drop_of_length-le, drop-cons}
 use native.Mathlib.Decide.{dec_le}
 use lib.ListN.{get_or-eq_default}
 use lib.Seq.{take-nil}
@@ -36,3 +36,15 @@ module _ (host ours : List ℕ) (ns : List Node) where
   pub run_on : (p n : ℕ) → 0 < n → run_text host ours ns p n ≡ node_text host ours ns (node_at ns p) ++ run_text host ours ns (p + 1) (n - 1)
   run_on p zero h = absurd (omega arith)
   run_on p (suc n) h = let e : suc n - 1 ≡ n = omega arith in rw (add-one p, e) (run_suc p n)
+
+  -- what is put, with the run that is left, is the whole: one line on, and at the end
+  pub run_further : (s t whole : List ℕ) (p n : ℕ) → 0 < n → node_text host ours ns (node_at ns p) ≡ t → s ++ run_text host ours ns p n ≡ whole
+      → s ++ t ++ run_text host ours ns (p + 1) (n - 1) ≡ whole
+  run_further s t whole p n h e w = append_assoc s t _ ∙ ap (λ (r : List ℕ). s ++ r) (ap (λ (r : List ℕ). r ++ run_text host ours ns (p + 1) (n - 1)) (sym e) ∙ sym (run_on p n h)) ∙ w
+
+  pub run_ended : (s whole : List ℕ) (p n : ℕ) → (p < length ns → n ≡ 0) → s ++ run_text host ours ns p n ≡ whole → s ≡ whole
+  run_ended s whole p n h w = sym (append-nil s) ∙ ap (λ (r : List ℕ). s ++ r) (sym (nothing_left (dec_le (length ns) p))) ∙ w
+    where
+      nothing_left : Dec (length ns ≤ p) → run_text host ours ns p n ≡ []
+      nothing_left (yes l) = run_past p n l
+      nothing_left (no l) = run_none p n (h (omega arith))

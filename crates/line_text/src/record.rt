@@ -1,208 +1,136 @@
 // The text of a record by the identifiers of its operands (the per-node part of unicorn's `write_model`): one row, or two for a State with an
 // init.
-ghost use Rattle.std.specs.Prelude.{◌≡◌, ◌+◌, ◌-◌, ◌%◌, ◌^◌, true, false, [], ◌∷◌, ◌++◌, if◌then◌else◌, nat_eq};
+ghost use Rattle.std.specs.Prelude.{◌≡◌, ◌+◌, ◌-◌, ◌%◌, ◌^◌, true, false, [], ◌∷◌, ◌++◌, if◌then◌else◌, nat_eq, Some, None};
 ghost use Rattle.text.specs.Put.{Put};
 ghost use Rattle.btor2.specs.Sort.{sort_numbered, width};
 ghost use Rattle.btor2.specs.declared.NodeType.{NodeType};
-ghost use Rattle.btor2.specs.declared.MaybeSort.TheVariants.{Sort, NoSort};
 ghost use Rattle.btor2.specs.Op.{unknown};
 ghost use Rattle.btor2_list.specs.declared.Line.{Line};
 ghost use Rattle.btor2_list.specs.Node.{op_of};
-ghost use Rattle.row_text.specs.Words.{kind_word};
-ghost use Rattle.row_text.specs.Row.{row_text};
 ghost use Rattle.line_text.specs.OwnSort.{own_sort};
-ghost use Rattle.line_text.specs.Record.{line_text, printed_name, with_operands};
+ghost use Rattle.line_text.specs.Record.{plain_row, named_row, line_text, printed_name, with_operands};
 
-use btor2::{MaybeSort, Name, Nid};
+use btor2::{BIT, MEMORY, Name, Nid, WORD, sort_of};
 use btor2_list::{
-    ADD, AND, BAD, CONST, DIV, DIVU, EQ, EXT, INPUT, ITE, Line, MUL, NEXT, NOT, OR, READ, REM, SLL,
-    SRL, STATE, SUB, ULT, WRITE,
+    ADD, AND, BAD, CONST, DIV, DIVU, EQ, EXT, HOST_AREA, INPUT, ITE, Line, MUL, NEXT, NOT, OR,
+    OUR_AREA, READ, REM, SLL, SRL, STATE, SUB, ULT, WRITE, name_bytes,
 };
 use row_text::{put_named, put_row};
 
-// A record whose operands have the identifiers a, b and c; one of unknown kind or sort has no text.
-pub(crate) fn put_record<'a>(
-    out: &mut [u8],
-    at: usize,
-    line: Line,
-    a: Nid,
-    b: Nid,
-    c: Nid,
-    host: &'a [u8],
-    ours: &'a [u8],
-) -> usize
-    ensures { Put out.old at (line_text (printed_name host.now ours.now) line.nid.0 (op_of (with_operands line a.0 b.0 c.0))) out.new result }
-{
-    if unsorted(line.kind, line.sort) {
-        return at;
-    }
-    put_known(out, at, line, a, b, c, host, ours)
+// The areas that names lie in.
+#[derive(Clone, Copy)]
+pub struct Areas<'a> {
+    pub host: &'a [u8],
+    pub ours: &'a [u8],
 }
 
-// A record whose sort is known where it has one of its own, and whose operands have the identifiers a, b and c: a clause for each kind, as in
-// unicorn's `write_model`.
-fn put_known<'a>(
-    out: &mut [u8],
-    at: usize,
-    line: Line,
-    a: Nid,
-    b: Nid,
-    c: Nid,
-    host: &'a [u8],
-    ours: &'a [u8],
-) -> usize
-    requires { own_sort line.kind ≡ true → (s : NodeType) × (sort_numbered line.sort ≡ Sort s) }
-    ensures { Put out.old at (line_text (printed_name host.now ours.now) line.nid.0 (op_of (with_operands line a.0 b.0 c.0))) out.new result }
+impl<'a> Areas<'a> {
+    // What is printed for a name: its bytes, or `?` where it is missing.
+    fn printed(&self, name: Name) -> &'a [u8]
+        ensures { result.now ≡ printed_name self.now.host.now self.now.ours.now name }
+    {
+        if name.area == HOST_AREA || name.area == OUR_AREA {
+            return name_bytes(self.host, self.ours, name);
+        }
+        b"?"
+    }
+}
+
+// A record and the identifiers of its operands.
+#[derive(Clone, Copy)]
+pub(crate) struct Identified {
+    pub(crate) line: Line,
+    pub(crate) a: Nid,
+    pub(crate) b: Nid,
+    pub(crate) c: Nid,
+}
+
+// One of unknown kind or sort has no text.
+pub(crate) fn put_record(out: &mut [u8], at: usize, identified: Identified, areas: &Areas) -> usize
+    ensures { Put out.old at (line_text (printed_name areas.now.host.now areas.now.ours.now) identified.line.nid.0 (op_of (with_operands identified.line identified.a.0 identified.b.0 identified.c.0))) out.new result }
 {
+    if unsorted(identified.line.kind, identified.line.sort) {
+        return at;
+    }
+    put_known(out, at, identified, areas)
+}
+
+// A record whose sort is known where it has one of its own: a clause for each kind, as in unicorn's `write_model`.
+fn put_known(out: &mut [u8], at: usize, identified: Identified, areas: &Areas) -> usize
+    requires { own_sort identified.line.kind ≡ true → (s : NodeType) × (sort_numbered identified.line.sort ≡ Some s) }
+    ensures { Put out.old at (line_text (printed_name areas.now.host.now areas.now.ours.now) identified.line.nid.0 (op_of (with_operands identified.line identified.a.0 identified.b.0 identified.c.0))) out.new result }
+{
+    let line = identified.line;
     let nid = line.nid.0;
-    let kind = line.kind;
-    let k = kind as usize;
     let sort = line.sort;
-    let area = line.name.area;
-    let start = line.name.at;
-    let len = line.name.len;
-    match kind {
-        CONST => put_row(out, at, nid, k, sort, 1, line.imm, 0, 0),
-        READ => put_row(out, at, nid, k, 2, 2, a.0, b.0, 0),
-        WRITE => put_row(out, at, nid, k, 3, 3, a.0, b.0, c.0),
-        ADD => put_row(out, at, nid, k, 2, 2, a.0, b.0, 0),
-        SUB => put_row(out, at, nid, k, 2, 2, a.0, b.0, 0),
-        MUL => put_row(out, at, nid, k, 2, 2, a.0, b.0, 0),
-        DIVU => put_row(out, at, nid, k, 2, 2, a.0, b.0, 0),
-        DIV => put_row(out, at, nid, k, 2, 2, a.0, b.0, 0),
-        REM => put_row(out, at, nid, k, 2, 2, a.0, b.0, 0),
-        SLL => put_row(out, at, nid, k, 2, 2, a.0, b.0, 0),
-        SRL => put_row(out, at, nid, k, 2, 2, a.0, b.0, 0),
-        ULT => put_row(out, at, nid, k, 1, 2, a.0, b.0, 0),
-        EXT => put_row(out, at, nid, k, 2, 2, a.0, padding(sort), 0),
-        ITE => put_row(out, at, nid, k, sort, 3, a.0, b.0, c.0),
-        EQ => put_row(out, at, nid, k, 1, 2, a.0, b.0, 0),
-        AND => put_row(out, at, nid, k, sort, 2, a.0, b.0, 0),
-        OR => put_row(out, at, nid, k, sort, 2, a.0, b.0, 0),
-        NOT => put_row(out, at, nid, k, sort, 1, a.0, 0, 0),
-        STATE => put_state(
-            out, at, nid, sort, line.imm, a.0, host, ours, area, start, len,
-        ),
-        NEXT => put_row(out, at, nid, k, sort, 2, a.0, b.0, 0),
-        INPUT => put_name(out, at, nid, k, sort, host, ours, area, start, len),
-        BAD => put_name(out, at, nid, k, a.0, host, ours, area, start, len),
+    let a = identified.a.0;
+    let b = identified.b.0;
+    let c = identified.c.0;
+    let operands = [a, b, c];
+    match line.kind {
+        CONST => put_row(out, at, nid, b"constd", sort, &[line.imm]),
+        READ => put_row(out, at, nid, b"read", WORD, &operands[..2]),
+        WRITE => put_row(out, at, nid, b"write", MEMORY, &operands),
+        ADD => put_row(out, at, nid, b"add", WORD, &operands[..2]),
+        SUB => put_row(out, at, nid, b"sub", WORD, &operands[..2]),
+        MUL => put_row(out, at, nid, b"mul", WORD, &operands[..2]),
+        DIVU => put_row(out, at, nid, b"udiv", WORD, &operands[..2]),
+        DIV => put_row(out, at, nid, b"sdiv", WORD, &operands[..2]),
+        REM => put_row(out, at, nid, b"urem", WORD, &operands[..2]),
+        SLL => put_row(out, at, nid, b"sll", WORD, &operands[..2]),
+        SRL => put_row(out, at, nid, b"srl", WORD, &operands[..2]),
+        ULT => put_row(out, at, nid, b"ult", BIT, &operands[..2]),
+        EXT => put_row(out, at, nid, b"uext", WORD, &[a, padding(sort)]),
+        ITE => put_row(out, at, nid, b"ite", sort, &operands),
+        EQ => put_row(out, at, nid, b"eq", BIT, &operands[..2]),
+        AND => put_row(out, at, nid, b"and", sort, &operands[..2]),
+        OR => put_row(out, at, nid, b"or", sort, &operands[..2]),
+        NOT => put_row(out, at, nid, b"not", sort, &operands[..1]),
+        STATE => put_state(out, at, line, identified.a, areas.printed(line.name)),
+        NEXT => put_row(out, at, nid, b"next", sort, &operands[..2]),
+        INPUT => put_named(out, at, nid, b"input", sort, areas.printed(line.name)),
+        BAD => put_named(out, at, nid, b"bad", a, areas.printed(line.name)),
         _ => at,
     }
 }
 
-// Whether a number is a sort's.
-fn is_sort(number: u64) -> bool
-    ensures { (result ≡ true → (s : NodeType) × (sort_numbered number ≡ Sort s)) × (result ≡ false → sort_numbered number ≡ NoSort) }
-{
-    match btor2::sort_of(number) {
-        MaybeSort::Sort(_) => true,
-        MaybeSort::NoSort => false,
-    }
-}
-
-// How many bits a value of a sort lacks to a Word.
+// By how many bits a value of a sort is extended to a Word.
 fn padding(from: u64) -> u64
-    ensures { (s : NodeType) → sort_numbered from ≡ Sort s → result ≡ 64 - width s }
+    ensures { (s : NodeType) → sort_numbered from ≡ Some s → result ≡ 64 - width s }
 {
-    match btor2::sort_of(from) {
-        MaybeSort::Sort(s) => 64 - btor2::bitsize(s),
-        MaybeSort::NoSort => 0,
+    match sort_of(from) {
+        Some(sort) => btor2::padding(sort),
+        None => 0,
     }
 }
 
 // Whether a line of this kind has a sort of its own.
 fn own_sort(kind: u64) -> bool
-    ensures own { result ≡ own_sort kind }
-    ensures unknown { result ≡ true → (l : Line) → l.kind ≡ kind → sort_numbered l.sort ≡ NoSort → op_of l ≡ unknown }
+    ensures { result ≡ own_sort kind }
 {
-    match kind {
-        CONST => true,
-        EXT => true,
-        ITE => true,
-        AND => true,
-        OR => true,
-        NOT => true,
-        STATE => true,
-        NEXT => true,
-        INPUT => true,
-        _ => false,
-    }
+    matches!(
+        kind,
+        CONST | EXT | ITE | AND | OR | NOT | STATE | NEXT | INPUT
+    )
 }
 
 // Whether a line of this kind has a sort of its own, which is unknown.
 fn unsorted(kind: u64, sort: u64) -> bool
-    ensures known { result ≡ false → own_sort kind ≡ true → (s : NodeType) × (sort_numbered sort ≡ Sort s) }
+    ensures known { result ≡ false → own_sort kind ≡ true → (s : NodeType) × (sort_numbered sort ≡ Some s) }
     ensures unknown { result ≡ true → (l : Line) → l.kind ≡ kind → l.sort ≡ sort → op_of l ≡ unknown }
 {
-    if own_sort(kind) {
-        return !is_sort(sort);
-    }
-    false
+    sort_of(sort).is_none() && own_sort(kind)
 }
 
-// A row with its name, `?` where that is missing. The name comes in its parts: a record that is lent to a call is not kept in registers.
-fn put_name<'a>(
-    out: &mut [u8],
-    at: usize,
-    nid: u64,
-    k: usize,
-    number: u64,
-    host: &'a [u8],
-    ours: &'a [u8],
-    area: u64,
-    start: u64,
-    len: u64,
-) -> usize
-    ensures { Put out.old at (row_text nid (kind_word k) (number ∷ []) true (printed_name host.now ours.now (record { area = area; at = start; len = len }))) out.new result }
+// A State by its name, and its init where `imm` says that it has one.
+fn put_state(out: &mut [u8], at: usize, line: Line, init: Nid, name: &[u8]) -> usize
+    ensures { Put out.old at (named_row line.nid.0 "state" line.sort name.now ++ (if nat_eq line.imm 0 then [] else plain_row ((line.nid.0 + 1) % 2 ^ 64) "init" (line.sort ∷ line.nid.0 ∷ init.0 ∷ []))) out.new result }
 {
-    let name = Name {
-        area,
-        at: start,
-        len,
-    };
-    if area == btor2_list::HOST_AREA {
-        return put_named(
-            out,
-            at,
-            nid,
-            k,
-            number,
-            btor2_list::name_bytes(host, ours, name),
-        );
-    }
-    if area == btor2_list::OUR_AREA {
-        return put_named(
-            out,
-            at,
-            nid,
-            k,
-            number,
-            btor2_list::name_bytes(host, ours, name),
-        );
-    }
-    put_named(out, at, nid, k, number, b"?")
-}
-
-// A State, and its init where `imm` says that it has one.
-fn put_state<'a>(
-    out: &mut [u8],
-    at: usize,
-    nid: u64,
-    sort: u64,
-    imm: u64,
-    init: u64,
-    host: &'a [u8],
-    ours: &'a [u8],
-    area: u64,
-    start: u64,
-    len: u64,
-) -> usize
-    ensures { Put out.old at (row_text nid (kind_word 19) (sort ∷ []) true (printed_name host.now ours.now (record { area = area; at = start; len = len })) ++ (if nat_eq imm 0 then [] else row_text ((nid + 1) % 2 ^ 64) (kind_word 0) (sort ∷ nid ∷ init ∷ []) false [])) out.new result }
-{
-    let p = put_name(out, at, nid, 19, sort, host, ours, area, start, len);
-    if imm == 0 {
+    let nid = line.nid.0;
+    let p = put_named(out, at, nid, b"state", line.sort, name);
+    if line.imm == 0 {
         return p;
     }
-    let next = std::num::wrapping_add_u64(nid, 1);
-    put_row(out, p, next, 0, sort, 2, nid, init, 0)
+    let next = nid.wrapping_add(1);
+    put_row(out, p, next, b"init", line.sort, &[nid, init.0])
 }

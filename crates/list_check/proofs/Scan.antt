@@ -1,5 +1,6 @@
 -- Of the lines of a known kind and sort, the kind tells which carry a value. Assumes nothing.
-use Prim.Native.Nat.{ℕ, ◌+◌, ◌≤◌, ◌<◌}
+use Rattle.std.specs.Prelude.{Option, Some, None}
+use Prim.Native.Nat.{ℕ, zero, suc, ◌+◌, ◌≤◌, ◌<◌}
 use mathlib.Core.Path.{◌≡◌, refl, sym, ◌∙◌, ap, fun_ext}
 use mathlib.Core.Bool.{Bool, true, false, cond, ◌||◌}
 use mathlib.Core.Bool as B
@@ -7,19 +8,18 @@ use mathlib.Core.List.{List}
 use native.Mathlib.Decide.{ℕ_discrete}
 use native.Mathlib.Numerals.{add-one}
 use native.Mathlib.Omega.{arith}
+use Rattle.std.proofs.lemmas.Bool.Decides.{nat_tests}
 use lib.Dec.{eqb}
 use lib.ListN.{length}
 use borrow.Author.Tests.{lt-ltb, le-ltb, le-leb, lt-leb, ne_eqb}
 use Rattle.bitvec.proofs.Truth.{neither}
 use Rattle.bitvec.proofs.Base.{by_le}
 use Rattle.btor2.specs.declared.NodeType.{NodeType}
-use Rattle.btor2.specs.declared.MaybeSort.{MaybeSort}
-use Rattle.btor2.specs.declared.MaybeSort.TheVariants.{Sort, NoSort}
 use Rattle.btor2.specs.Sort.{sort_numbered}
 use Rattle.btor2.specs.Op.{Op, next, carried}
 use Rattle.btor2_list.specs.declared.Line.{Line}
 use Rattle.btor2_list.specs.Record.{record_at, capacity}
-use Rattle.btor2_list.specs.Node.{with_sort, op_of}
+use Rattle.btor2_list.specs.Node.{with_sort, operator_at, operators_by_kind, op_of}
 use Rattle.list_check.specs.declared.Checked.TheVariants.{Unformed}
 use Rattle.list_check.specs.Formed.{is_unknown, has_value, op_unformed, unformed_words}
 use Rattle.list_check.specs.Lines.{some, past_words}
@@ -32,50 +32,31 @@ use Rattle.list_check.proofs.Formed.{said, record_unformed, by_records, formed_l
 abbrev Valued : Op ℕ → Type 0
 Valued o = B.not (has_value (carried o)) ≡ is_unknown o
 
-either : (b : Bool) (o p : Op ℕ) → Valued o → Valued p → Valued (cond b o p)
-either true o p h h' = h
-either false o p h h' = h'
-
-own : (m : MaybeSort) (g : NodeType → Op ℕ) → ((s : NodeType) → Valued (g s)) → Valued (with_sort m g)
-unfolding carried
-own (Sort s) g h = h s
-own NoSort g h = refl
-
 -- a Next carries none
-no_next : (m : MaybeSort) (a b : ℕ) → B.not (has_value (carried (with_sort m (λ s. next s a b)))) ≡ true
+no_next : (m : Option NodeType) (a b : ℕ) → B.not (has_value (carried (with_sort m (λ s. next s a b)))) ≡ true
 unfolding carried
-no_next (Sort s) a b = refl
-no_next NoSort a b = refl
+no_next (Some s) a b = refl
+no_next None a b = refl
+
+module _ (l : Line) (n : l.kind ≡ 20 → ⊥) (b : l.kind ≡ 22 → ⊥) where
+  known : (s : NodeType) → Valued (operator_at (operators_by_kind (Some s) l) 1 l.kind)
+  unfolding carried
+  known s = grind (arith, nat_tests)
+
+  not_known : Valued (operator_at (operators_by_kind None l) 1 l.kind)
+  unfolding carried
+  not_known = grind (arith, nat_tests)
+
+  -- neither a Next nor a Bad
+  valued : Valued (op_of l)
+  unfolding op_of
+  valued = go (sort_numbered l.sort)
+    where
+      go : (m : Option NodeType) → Valued (operator_at (operators_by_kind m l) 1 l.kind)
+      go (Some s) = known s
+      go None = not_known
 
 module _ (l : Line) where
-  -- neither a Next nor a Bad, kind by kind
-  valued : (l.kind ≡ 20 → ⊥) → (l.kind ≡ 22 → ⊥) → Valued (op_of l)
-  unfolding op_of carried
-  valued n b =
-      let m = sort_numbered l.sort in
-      let k = l.kind in
-      rw (ne_eqb k 20 n, ne_eqb k 22 b)
-      (either (eqb k 1) _ _ (own m _ (λ s. refl))
-      (either (eqb k 2) _ _ refl
-      (either (eqb k 3) _ _ refl
-      (either (eqb k 4) _ _ refl
-      (either (eqb k 5) _ _ refl
-      (either (eqb k 6) _ _ refl
-      (either (eqb k 7) _ _ refl
-      (either (eqb k 8) _ _ refl
-      (either (eqb k 9) _ _ refl
-      (either (eqb k 10) _ _ refl
-      (either (eqb k 11) _ _ refl
-      (either (eqb k 12) _ _ refl
-      (either (eqb k 13) _ _ (own m _ (λ s. refl))
-      (either (eqb k 14) _ _ (own m _ (λ s. refl))
-      (either (eqb k 15) _ _ refl
-      (either (eqb k 16) _ _ (own m _ (λ s. refl))
-      (either (eqb k 17) _ _ (own m _ (λ s. refl))
-      (either (eqb k 18) _ _ (own m _ (λ s. refl))
-      (either (eqb k 19) _ _ (own m _ (λ s. either (eqb l.imm 0) _ _ refl refl))
-      (either (eqb k 21) _ _ (own m _ (λ s. refl)) refl))))))))))))))))))))
-
   by_kind : is_unknown (op_of l) ≡ false → B.not (has_value (carried (op_of l))) ≡ (eqb l.kind 20 || eqb l.kind 22)
   unfolding op_of carried
   by_kind known = go (ℕ_discrete l.kind 20) (ℕ_discrete l.kind 22)
@@ -84,7 +65,7 @@ module _ (l : Line) where
       go (yes e) d = rw e (no_next (sort_numbered l.sort) l.op1.0 l.op2.0)
       go (no n) (yes e) = rw e
       go (no n) (no b) =
-          let neither : false ≡ (eqb l.kind 20 || eqb l.kind 22) = rw (ne_eqb l.kind 20 n, ne_eqb l.kind 22 b) in valued n b ∙ known ∙ neither
+          let neither : false ≡ (eqb l.kind 20 || eqb l.kind 22) = rw (ne_eqb l.kind 20 n, ne_eqb l.kind 22 b) in valued l n b ∙ known ∙ neither
 
 -- the words hold line i, and each line before it has a known kind and sort
 pub record Reached (ws : List ℕ) (i : ℕ) : Type 0 where
@@ -113,6 +94,16 @@ scanned ws i host ours r = rw (lt-ltb _ _ r.held) (recorded ws i host ours r)
 pub reached : (ws : List ℕ) (i host ours : ℕ) → i < capacity (length ws) → some i (record_unformed host ours ws) ≡ false → Reached ws i
 reached ws i host ours h none =
     record { held = h; known = λ q l. (formed_line host ours (no_value_at ws q) (said ws q) (some_none i (record_unformed host ours ws) none q l)).0 }
+
+-- the tests of a scan, one line after the other, are the records'
+pub scans : (ws : List ℕ) (n host ours : ℕ) → n ≤ capacity (length ws) → some n (λ i. scan_unformed ws i host ours) ≡ some n (record_unformed host ours ws)
+unfolding some
+scans ws zero host ours room = refl
+scans ws (suc n) host ours room = rw (scans ws n host ours (omega arith)) (go (some n (record_unformed host ours ws)) refl)
+  where
+    go : (t : Bool) → some n (record_unformed host ours ws) ≡ t → (t || scan_unformed ws n host ours) ≡ (t || record_unformed host ours ws n)
+    go true e = refl
+    go false e = scanned ws n host ours (reached ws n host ours (omega arith) e)
 
 -- so that it finds 11 of the lines up to that line
 pub checked : (ws : List ℕ) (i host ours : ℕ) → unformed_words ws i host ours ≡ false → scan_line ws i host ours ≡ checked_line ws i host ours

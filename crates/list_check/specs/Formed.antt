@@ -1,11 +1,10 @@
 -- Refusal 11 (document 01, "Who can be refused, and with what"): "unknown kind or sort, an Ext from Memory, an operand that isn't an
 -- earlier value line, or a name outside its area".
-use Rattle.std.specs.Prelude.{ℕ, ◌+◌, Bool, true, false, cond, ◌&&◌, ◌||◌, List, [], ◌∷◌, eqb, ltb, length}
+use Rattle.std.specs.Prelude.{ℕ, ◌+◌, Bool, true, false, cond, ◌&&◌, ◌||◌, List, [], ◌∷◌, eqb, ltb, length, Option, Some, None}
+use Rattle.btor2.specs.declared.NodeType.{NodeType}
 use Rattle.std.proofs.Math.Bool as B
 use Rattle.btor2.specs.declared.Name.{Name}
 use Rattle.btor2.specs.declared.NodeType.TheVariants.{Memory}
-use Rattle.btor2.specs.declared.MaybeSort.{MaybeSort}
-use Rattle.btor2.specs.declared.MaybeSort.TheVariants.{Sort, NoSort}
 use Rattle.btor2.specs.Sort.{same_sort}
 use Rattle.btor2.specs.Op.{Op, const, read, write, bin, uext, ite, eq, and, or, not, state, state_init, next, input, bad, unknown, carried}
 use Rattle.btor2_list.specs.Node.{no_name}
@@ -95,9 +94,9 @@ name_outside host ours m =
     cond (eqb m.area 0) false
     (cond (eqb m.area 1) (ltb host (m.at + m.len)) (cond (eqb m.area 2) (ltb ours (m.at + m.len)) true))
 
-abbrev pub has_value : MaybeSort → Bool
-has_value (Sort s) = true
-has_value NoSort = false
+abbrev pub has_value : Option NodeType → Bool
+has_value (Some s) = true
+has_value None = false
 
 -- "an earlier value line", seen from the line at place p
 abbrev pub earlier_value : List (Op ℕ) → ℕ → ℕ → Bool

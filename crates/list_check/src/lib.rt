@@ -13,17 +13,18 @@ ghost use Rattle.list_check.specs.Lines.{any};
 ghost use Rattle.list_check.specs.Formed.{name_outside, has_value, op_unformed, unformed_words};
 ghost use Rattle.list_check.specs.Scan.{out_before, scan_unformed, name_length, scan_line, checked_line};
 
-use btor2::{BIT, MEMORY, MaybeSort, Name, NodeRef, NodeType, get_sort, sort_of};
+use btor2::{BIT, MEMORY, Name, NodeRef, NodeType, sort_of};
 use btor2_list::{
-    ADD, AND, BAD, CONST, DIV, DIVU, EQ, EXT, Found, HOST_AREA, INPUT, ITE, Line, MUL, NEXT, NOT,
-    OR, OUR_AREA, READ, REM, SLL, SRL, STATE, SUB, ULT, WRITE, capacity, get, is_named, kind_at,
+    ADD, AND, BAD, CONST, DIV, DIVU, EQ, EXT, HOST_AREA, INPUT, ITE, Line, MUL, NEXT, NOT, OR,
+    OUR_AREA, READ, REM, SLL, SRL, STATE, SUB, ULT, WRITE, capacity, get, is_named, kind_at,
 };
 pub use operands::broken;
 
 // An Ext from Memory as one number, kind * 32 + sort, so that one comparison tells it.
 const EXT_FROM_MEMORY: u64 = EXT * 32 + MEMORY;
 
-// What the check of a line finds: 11; or that it is well formed, and how long its name is where lines of its kind have one.
+// What the check of a line finds: 11; or that it is well formed, and how long its name is where lines of its kind have one. A Result of an Option
+// would be no plainer: each of the three answers has a name.
 #[derive(Clone, Copy)]
 pub enum Checked {
     Unformed,
@@ -36,26 +37,13 @@ pub enum Checked {
 pub fn unformed(list: &[u64], lines: usize, host: usize, ours: usize) -> bool
     ensures { result ≡ unformed_words list.now lines host ours }
 {
-    if capacity(list.len()) < lines {
-        return true;
-    }
-    let mut i = 0;
-    while i < lines {
-        if line_unformed(list, i, host, ours) {
-            return true;
-        }
-        i += 1;
-    }
-    false
+    capacity(list.len()) < lines || (0..lines).any(|i| line_unformed(list, i, host, ours))
 }
 
 fn line_unformed(list: &[u64], i: usize, host: usize, ours: usize) -> bool
     ensures { result ≡ scan_unformed list.now i host ours }
 {
-    match get(list, NodeRef(i)) {
-        Found::Line(line) => unformed_by_kind(list, i, line, host, ours),
-        Found::Outside => true,
-    }
+    get(list, NodeRef(i)).is_none_or(|line| unformed_by_kind(list, i, line, host, ours))
 }
 
 // Line i alone, in a scan that has found the lines before it well formed: then it answers 11 of the lines up to this one.
@@ -74,18 +62,15 @@ pub fn check_line(list: &[u64], i: usize, host: usize, ours: usize) -> Checked
 fn plain_at(list: &[u64], i: usize) -> bool
     ensures { result ≡ true → (holds list.now i ≡ true) × (has_name (record_at list.now i).kind ≡ false) × ((host ours : ℕ) → op_unformed host ours (out_before list.now i) (op_of (record_at list.now i)) ≡ false) }
 {
-    match get(list, NodeRef(i)) {
-        Found::Line(line) => plainly_formed(list, i, line),
-        Found::Outside => false,
-    }
+    get(list, NodeRef(i)).is_some_and(|line| plainly_formed(list, i, line))
 }
 
 fn check_by_kind(list: &[u64], i: usize, host: usize, ours: usize) -> Checked
     ensures { result ≡ scan_line list.now i host ours }
 {
     match get(list, NodeRef(i)) {
-        Found::Line(line) => check_record(list, i, line, host, ours),
-        Found::Outside => Checked::Unformed,
+        Some(line) => check_record(list, i, line, host, ours),
+        None => Checked::Unformed,
     }
 }
 
@@ -93,19 +78,12 @@ fn check_record(list: &[u64], i: usize, line: Line, host: usize, ours: usize) ->
     ensures { result ≡ cond (op_unformed host ours (out_before list.now i) (op_of line)) Unformed (name_length line) }
 {
     if unformed_by_kind(list, i, line, host, ours) {
-        return Checked::Unformed;
+        Checked::Unformed
+    } else if is_named(line.kind) {
+        Checked::Named(line.name.len)
+    } else {
+        Checked::Unnamed
     }
-    name_len(line)
-}
-
-// Whether lines of this kind have a name, and the length of its name.
-fn name_len(line: Line) -> Checked
-    ensures { result ≡ name_length line }
-{
-    if is_named(line.kind) {
-        return Checked::Named(line.name.len);
-    }
-    Checked::Unnamed
 }
 
 // Line i is surely well formed: a kind without a name, Bit, Word or Memory as its sort, and a Const, or no Ext from Memory and none of the
@@ -116,56 +94,26 @@ fn plainly_formed(list: &[u64], i: usize, line: Line) -> bool
 {
     let kind = line.kind;
     let sort = line.sort;
-    if kind < CONST {
+    if kind < CONST || NEXT < kind || kind == STATE || sort < BIT || MEMORY < sort {
         return false;
     }
-    if NEXT < kind {
-        return false;
-    }
-    if kind == STATE {
-        return false;
-    }
-    if sort < BIT {
-        return false;
-    }
-    if MEMORY < sort {
-        return false;
-    }
-    if kind == CONST {
-        return true;
-    }
-    if kind * 32 + sort == EXT_FROM_MEMORY {
-        return false;
-    }
-    !three_out(list, i, line)
+    kind == CONST || (kind * 32 + sort != EXT_FROM_MEMORY && !three_out(list, i, line))
 }
 
 // By a match on the kind: the fields that it uses.
+#[tactic(auto, using(std::proofs::lemmas::Bool::Decides::nat_tests), unfolding(btor2_list::specs::Node::op_of, crate::specs::Formed::op_unformed))]
 fn unformed_by_kind(list: &[u64], i: usize, line: Line, host: usize, ours: usize) -> bool
     ensures { result ≡ op_unformed host ours (out_before list.now i) (op_of line) }
 {
-    let kind = line.kind;
-    match kind {
+    match line.kind {
         CONST => no_sort(line),
-        READ => two_out(list, i, line),
+        READ | ADD | SUB | MUL | DIVU | DIV | REM | SLL | SRL | ULT | EQ => two_out(list, i, line),
         WRITE => three_out(list, i, line),
-        ADD => two_out(list, i, line),
-        SUB => two_out(list, i, line),
-        MUL => two_out(list, i, line),
-        DIVU => two_out(list, i, line),
-        DIV => two_out(list, i, line),
-        REM => two_out(list, i, line),
-        SLL => two_out(list, i, line),
-        SRL => two_out(list, i, line),
-        ULT => two_out(list, i, line),
         EXT => extended_out(list, i, line),
         ITE => no_sort(line) || three_out(list, i, line),
-        EQ => two_out(list, i, line),
-        AND => no_sort(line) || two_out(list, i, line),
-        OR => no_sort(line) || two_out(list, i, line),
+        AND | OR | NEXT => no_sort(line) || two_out(list, i, line),
         NOT => no_sort(line) || operand_out(list, i, line.op1),
         STATE => no_sort(line) || state_out(list, i, line, host, ours),
-        NEXT => no_sort(line) || two_out(list, i, line),
         INPUT => no_sort(line) || name_out(line.name, host, ours),
         BAD => name_out(line.name, host, ours) || operand_out(list, i, line.op1),
         _ => true,
@@ -173,13 +121,11 @@ fn unformed_by_kind(list: &[u64], i: usize, line: Line, host: usize, ours: usize
 }
 
 // An Ext: the sort that it extends from is unknown or Memory, or its operand is out.
+#[tactic(auto, using(std::proofs::lemmas::Bool::Decides::nat_tests), unfolding(btor2_list::specs::Node::op_of, crate::specs::Formed::op_unformed))]
 fn extended_out(list: &[u64], i: usize, line: Line) -> bool
     ensures { (host ours : ℕ) → line.kind ≡ uext_kind → result ≡ op_unformed host ours (out_before list.now i) (op_of line) }
 {
-    let MaybeSort::Sort(from) = sort_of(line.sort) else {
-        return true;
-    };
-    get_sort(from) == get_sort(NodeType::Memory) || operand_out(list, i, line.op1)
+    sort_of(line.sort).is_none_or(|from| from == NodeType::Memory) || operand_out(list, i, line.op1)
 }
 
 // A State has an operand where its mark is not 0.
@@ -189,7 +135,7 @@ fn state_out(list: &[u64], i: usize, line: Line, host: usize, ours: usize) -> bo
     name_out(line.name, host, ours) || (line.imm != 0 && operand_out(list, i, line.op1))
 }
 
-// Its first two operands.
+// Its first two operands. With three_out it is one test over a slice of operands, but a call for each is what the compiler merges into the match.
 fn two_out(list: &[u64], i: usize, line: Line) -> bool
     ensures { result ≡ any (out_before list.now i) (line.op1.0 ∷ line.op2.0 ∷ []) }
 {
@@ -209,47 +155,33 @@ fn three_out(list: &[u64], i: usize, line: Line) -> bool
 fn operand_out(list: &[u64], i: usize, place: NodeRef) -> bool
     ensures { result ≡ out_before list.now i place.0 }
 {
-    if i <= place.0 {
-        return true;
-    }
-    let kind = kind_at(list, place);
-    kind == NEXT || kind == BAD
+    i <= place.0 || matches!(kind_at(list, place), NEXT | BAD)
 }
 
 // Its own sort is unknown.
 fn no_sort(line: Line) -> bool
     ensures { result ≡ not (has_value (sort_numbered line.sort)) }
 {
-    match sort_of(line.sort) {
-        MaybeSort::Sort(_) => false,
-        MaybeSort::NoSort => true,
-    }
+    sort_of(line.sort).is_none()
 }
 
 // A name that is not missing has all its bytes in its area. A mark that is none of the two areas' and not 0 is outside.
 fn name_out(name: Name, host: usize, ours: usize) -> bool
     ensures { result ≡ name_outside host ours name }
 {
-    let area = name.area;
-    if area == 0 {
-        return false;
+    match name.area {
+        0 => false,
+        HOST_AREA => past(host, name),
+        OUR_AREA => past(ours, name),
+        _ => true,
     }
-    if area == HOST_AREA {
-        return past(host, name.at, name.len);
-    }
-    if area == OUR_AREA {
-        return past(ours, name.at, name.len);
-    }
-    true
 }
 
-// `len` bytes from `at` on reach past the end of an area.
-fn past(area: usize, at: u64, len: u64) -> bool
-    ensures { result ≡ ltb area (at + len) }
+// The bytes of a name reach past the end of an area.
+fn past(area: usize, name: Name) -> bool
+    ensures { result ≡ ltb area (name.at + name.len) }
 {
-    let end = area as u64;
-    if end < at {
-        return true;
-    }
-    end - at < len
+    name.at
+        .checked_add(name.len)
+        .is_none_or(|end| (area as u64) < end)
 }

@@ -1,4 +1,5 @@
 -- What the listing's laws rest on of the lowering: what one call leaves, and what an instruction needs. Assumes nothing.
+use Rattle.std.specs.Prelude.{Some}
 use Prim.Native.Nat.{ℕ, ◌+◌, ◌*◌, ◌≤◌, ◌<◌}
 use mathlib.Core.Path.{◌≡◌, refl, sym, ap, subst, ◌∙◌}
 use mathlib.Core.Bool.{Bool, true, false, cond, ◌&&◌, ◌||◌}
@@ -11,7 +12,6 @@ use Rattle.bitvec.proofs.Truth.{is_true}
 use Rattle.btor2.specs.declared.Name.{Name}
 use Rattle.btor2.specs.declared.NodeRef.{NodeRef}
 use Rattle.btor2.specs.Op.{Op, const, read, write, bin, uext, ite, eq, and, or, not, state, state_init, next, input, bad, unknown}
-use Rattle.btor2_list.specs.declared.MaybeAddress.TheVariants.{Address}
 use Rattle.btor2_list.specs.Record.{capacity}
 use Rattle.btor2_list.specs.Node.{no_name}
 use Rattle.btor2_list.specs.View.{view}
@@ -24,7 +24,8 @@ use Rattle.riscv.specs.Class.{class, plain_count, count_of, has_bad, has_dispatc
 use Rattle.edges.specs.Edges.{edge_count}
 use Rattle.models.specs.Places.{Operands, Flows}
 use Rattle.riscv.specs.declared.Instruction.{Instruction}
-use Rattle.riscv.specs.Kind.{Kind, kind_at}
+use Rattle.riscv.specs.declared.Kind.{Kind}
+use Rattle.riscv.specs.Kind.{kind_at}
 use Rattle.riscv.proofs.EachKind.{zeros, every_case, by_case}
 use Rattle.text.specs.BadName.{bad_name}
 use Rattle.text.proofs.Laws.{bad_name_length}
@@ -153,7 +154,7 @@ pub record Grown (l : Lent) (st : State) (i : Instruction) (address : ℕ) (a : 
   pub bads : length a.lent.bads ≡ length l.bads
   pub ops : List (Op ℕ)
   pub rows : one_row_each ops ≡ true
-  pub nodes : view a.lent.list a.lowered.state.tally.lines ≡ view l.list st.tally.lines ++ numbered (Address address) st.tally.nid ops
+  pub nodes : view a.lent.list a.lowered.state.tally.lines ≡ view l.list st.tally.lines ++ numbered (Some address) st.tally.nid ops
 
 pub data OneCall (l : Lent) (st : State) (i : Instruction) (address : ℕ) : Answer → Type 0 where
   stays : (n : ℕ) → (n ≡ 0 → ⊥) → OneCall l st i address (refused n l st)

@@ -9,7 +9,7 @@ use lib.ListN.{length, replicate, drop, length-replicate, length-append, length-
 use Rattle.bitvec.proofs.Base.{by_le}
 use Rattle.btor2_list.specs.Record.{capacity, words_for}
 use Rattle.listing_input.specs.declared.line.Parsed.{Parsed}
-use Rattle.listing_input.specs.declared.line.Parsed.TheVariants.{Instruction as Instr, Malformed}
+use Rattle.std.specs.Prelude.{Option, Some, None}
 use Rattle.listing_input.specs.Line.{parse_line}
 use Rattle.listing_start.specs.Start.{start_lines, start_names, concat, start_name, named_states, start_ops, records, start_words, start_in, start_state}
 use Rattle.riscv.specs.declared.Instruction.{Instruction}
@@ -96,9 +96,9 @@ call_kept l st i address {a} k (grows g) =
       name_bytes = rw c (omega (arith, k.name_bytes, s.name_bytes));
     }
 
-taken_kept : (number : ℕ) (l : Lent) (st : State) (p : Parsed) → Kept l st → Kept (parsed_step number l st p).lent (parsed_step number l st p).state
-taken_kept number l st Malformed k = k
-taken_kept number l st (Instr address kind rd rs1 rs2 imm) k = call_kept l st _ address k (one_call l st _ address _)
+taken_kept : (number : ℕ) (l : Lent) (st : State) (p : Option Parsed) → Kept l st → Kept (parsed_step number l st p).lent (parsed_step number l st p).state
+taken_kept number l st None k = k
+taken_kept number l st (Some p) k = call_kept l st p.instruction p.address k (one_call l st p.instruction p.address _)
 
 pub step_kept : (number : ℕ) (line : List ℕ) (l : Lent) (st : State) → Kept l st → Kept (step number line l st).lent (step number line l st).state
 unfolding step

@@ -1,4 +1,5 @@
 -- The output of a line of input has room. Assumes nothing.
+use Rattle.std.specs.Prelude.{Option, Some}
 use Prim.Native.Nat.{ℕ, zero, suc, ◌+◌, ◌-◌, ◌*◌, ◌/◌, ◌≤◌, min}
 use mathlib.Core.Path.{◌≡◌, refl, sym, ap, ◌∙◌}
 use mathlib.Core.Bool.{Bool, true, false, cond, ◌&&◌, ◌||◌, true≢false}
@@ -12,8 +13,6 @@ use lib.Seq.{drop_at, take-append_seam}
 use Rattle.btor2.specs.declared.Name.{Name}
 use Rattle.btor2.specs.Sort.{sort_number, width}
 use Rattle.btor2.specs.Op.{Bin, add, sub, mul, udiv, sdiv, urem, sll, srl, ult, Op, const, read, write, bin, uext, ite, eq, and, or, not, state, state_init, next, input, bad, unknown, map_op, bin_sort, identifiers}
-use Rattle.btor2_list.specs.declared.MaybeAddress.{MaybeAddress}
-use Rattle.btor2_list.specs.declared.MaybeAddress.TheVariants.{Address}
 use Rattle.btor2_list.specs.Record.{capacity}
 use Rattle.btor2_list.specs.Node.{Node}
 use Rattle.btor2_list.specs.View.{view}
@@ -24,7 +23,7 @@ use Rattle.row_text.specs.Row.{name_text, numbers_text, row_text}
 use Rattle.line_text.specs.Record.{bin_word, line_text, printed_name}
 use Rattle.text.proofs.Laws.{numeral-length, put_is}
 use Rattle.listing_input.specs.declared.line.Parsed.{Parsed}
-use Rattle.listing_input.specs.declared.line.Parsed.TheVariants.{Instruction as Instr, Malformed}
+use Rattle.std.specs.Prelude.{Option, Some, None}
 use Rattle.listing_input.specs.Line.{parse_line}
 use Rattle.listing_start.specs.Start.{host_area}
 use Rattle.listing_text.specs.Remarks.{origin_word, condition_text, edge_text, dispatch_text, refused_text, edge_text_at, edges_text, dispatch_text_at, dispatches_text}
@@ -108,7 +107,7 @@ both true b e = (refl, e)
 both false b e = never e
 
 -- the first k of them
-rows_most : (host ours : List ℕ) (ns : List Node) (w : MaybeAddress) (k nid : ℕ) (ops : List (Op ℕ)) → one_row_each ops ≡ true → length (nodes_text host ours ns (take k (numbered w nid ops))) ≤ most_row * k
+rows_most : (host ours : List ℕ) (ns : List Node) (w : Option ℕ) (k nid : ℕ) (ops : List (Op ℕ)) → one_row_each ops ≡ true → length (nodes_text host ours ns (take k (numbered w nid ops))) ≤ most_row * k
 unfolding nodes_text numbered
 rows_most host ours ns w zero nid ops e = omega arith
 rows_most host ours ns w (suc k) nid [] e = omega arith
@@ -169,10 +168,10 @@ module _ (l : Lent) (st : State) (i : Instruction) (address : ℕ) (none : (st.c
       let grown = a.lowered.state.tally.lines - st.tally.lines in
       let all : min a.lowered.state.tally.lines (capacity (length a.lent.list)) ≡ a.lowered.state.tally.lines =
       min-eq_left (rw (g.list, g.lines) g.held) in
-      let own : drop st.tally.lines ns ≡ numbered (Address address) st.tally.nid g.ops =
+      let own : drop st.tally.lines ns ≡ numbered (Some address) st.tally.nid g.ops =
       ap (λ (n : ℕ). drop st.tally.lines (view a.lent.list n)) all ∙ ap (drop st.tally.lines) g.nodes ∙ drop_at (view l.list st.tally.lines) _ st.tally.lines (view-length l.list st.tally.lines) in
       let e = ap (λ (x : List Node). length (nodes_text host_area a.lent.names ns (take grown x))) own in
-      omega (arith, e, rows_most host_area a.lent.names ns (Address address) grown st.tally.nid g.ops g.rows, g.lines, g.most)
+      omega (arith, e, rows_most host_area a.lent.names ns (Some address) grown st.tally.nid g.ops g.rows, g.lines, g.most)
 
   appended_most : {a : Answer} → Grown l st i address a → length (appended_text st.tally.lines a.lent a.lowered.state) ≤ out_room
   unfolding appended_text counts_after
@@ -190,9 +189,9 @@ module _ (l : Lent) (st : State) (i : Instruction) (address : ℕ) (none : (st.c
   answer_most number (stays n h) = rw (ne_eqb n 0 h) (omega (arith, refused_most number n))
   answer_most number (grows g) = rw (eq-eqb _ 0 g.refusal) (appended_most g)
 
-taken_most : (number : ℕ) (l : Lent) (st : State) → (st.counts.edges ≡ 0) × (st.counts.dispatches ≡ 0) → (p : Parsed) → length (parsed_step number l st p).text ≤ out_room
-taken_most number l st none Malformed = omega (arith, refused_most number 0)
-taken_most number l st none (Instr address kind rd rs1 rs2 imm) = answer_most l st _ address none number (one_call l st _ address _)
+taken_most : (number : ℕ) (l : Lent) (st : State) → (st.counts.edges ≡ 0) × (st.counts.dispatches ≡ 0) → (p : Option Parsed) → length (parsed_step number l st p).text ≤ out_room
+taken_most number l st none None = omega (arith, refused_most number 0)
+taken_most number l st none (Some p) = answer_most l st p.instruction p.address none number (one_call l st p.instruction p.address _)
 
 pub text_written : TextWritten
 text_written out text out' n room fits u =

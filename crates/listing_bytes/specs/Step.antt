@@ -1,9 +1,8 @@
 -- One step of the listing: a line of input, and what comes of it (document 01, "The listing program has its own start").
-use Rattle.std.specs.Prelude.{ℕ, ◌-◌, cond, List, ◌++◌, eqb}
+use Rattle.std.specs.Prelude.{ℕ, ◌-◌, cond, List, ◌++◌, eqb, Option, Some, None}
 use Rattle.btor2_list.specs.Node.{Node}
 use Rattle.line_text.specs.Line.{nodes, run_text}
 use Rattle.listing_input.specs.declared.line.Parsed.{Parsed}
-use Rattle.listing_input.specs.declared.line.Parsed.TheVariants.{Instruction, Malformed}
 use Rattle.listing_input.specs.Line.{parse_line}
 use Rattle.listing_start.specs.Start.{placed, host_area}
 use Rattle.listing_text.specs.Remarks.{edges_text, dispatches_text, refused_text}
@@ -40,10 +39,9 @@ abbrev pub answer_step : ℕ → ℕ → Answer → Step
 answer_step line from a = record { state = a.lowered.state; lent = a.lent; text = answer_text line from a }
 
 -- "Every instruction uses flag 58." "Number 0 means over 256 bytes or not six fields"
-abbrev pub parsed_step : ℕ → Lent → State → Parsed → Step
-parsed_step line l st Malformed = record { state = st; lent = l; text = refused_text line 0 }
-parsed_step line l st (Instruction address kind rd rs1 rs2 imm) =
-    answer_step line st.tally.lines (lowering l st (record { kind = kind; rd = rd; rs1 = rs1; rs2 = rs2; imm = imm }) address (placed 58))
+abbrev pub parsed_step : ℕ → Lent → State → Option Parsed → Step
+parsed_step line l st None = record { state = st; lent = l; text = refused_text line 0 }
+parsed_step line l st (Some p) = answer_step line st.tally.lines (lowering l st p.instruction p.address (placed 58))
 
 -- the line of this number
 unfoldable pub step : ℕ → List ℕ → Lent → State → Step

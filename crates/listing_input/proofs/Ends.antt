@@ -1,64 +1,55 @@
--- Whether a newline was found, from where the search for it ended. Assumes nothing.
-use Prim.Native.Nat.{ℕ, ◌+◌, ◌-◌, ◌≤◌, ◌<◌}
-use native.Mathlib.Nat.{le_of_eq}
-use mathlib.Core.Path.{◌≡◌, sym, ap, ◌∙◌}
-use mathlib.Core.Bool.{true, false}
-use mathlib.Core.List.{List, []}
-use native.Mathlib.Omega.{arith}
-use lib.ListN.{length, take, drop, length-drop, drop_of_length-le}
-use lib.Seq.{take_all}
-use borrow.Author.Tests.{lt-ltb, le-ltb}
+-- Whether a newline was found among the bytes of a piece from a place on. Assumes nothing.
+use Rattle.std.proofs.Common.{◌≡◌, ℕ, ◌+◌, ◌-◌, Bool, true, false, cond, ltb, eqb, List, [], length, take, drop, sym, refl, ◌∙◌, arith, length-drop, take_all, ltb-false}
+use Rattle.std.specs.Prelude.{Option, Some, None}
+use Rattle.std.specs.List.{PartBy, position_or_len}
+use Rattle.std.specs.Option.{unwrap_or}
+use denote.Ref.{Bor}
 use Rattle.listing_input.specs.Text.{before}
-use Rattle.listing_input.proofs.Steps.{before_le}
 use Rattle.listing_input.specs.Gather.{line_bytes, line_ends, line_next}
+use Rattle.listing_input.proofs.Chains.{before_is}
+use lib.ListN.{drop_of_length-le}
 
--- r is what a search among the bytes from `from` on gave
-module _ (s : List ℕ) (from r : ℕ) (h : from ≤ length s) (e : r ≡ before 10 (take (length s - from) (drop from s))) where
-  long : length (drop from s) ≡ length s - from
-  long = length-drop from s
+-- the bytes from the place on, or none
+pub rest_is : (r : Option (Bor (List ℕ))) (d : Bor (List ℕ)) (piece : List ℕ) (from : ℕ) → PartBy (λ (x : Bor (List ℕ)). x.now) piece from (length piece) r → d.now ≡ []
+    → (unwrap_or r d).now ≡ drop from piece
+rest_is None d piece from h e = e ∙ sym (drop_of_length-le piece (omega (arith, h.0)))
+rest_is (Some x) d piece from h e = h.0.2 ∙ take_all (length piece - from) (drop from piece) (omega (arith, length-drop from piece))
 
-  is : r ≡ before 10 (drop from s)
-  is = e ∙ ap (before 10) (take_all (length s - from) (drop from s) (le_of_eq long))
+abbrev first_newline : List ℕ → ℕ → ℕ
+first_newline piece from = before 10 (drop from piece)
 
-  pub found_within : from + r ≤ length s
-  found_within = omega (arith, h, is, before_le 10 (drop from s), long)
+-- the newline stands after n bytes of the rest
+pub record Ends (piece : List ℕ) (from n : ℕ) (rest : List ℕ) : Type 0 where
+  pub bytes : take n rest ≡ line_bytes piece from
+  pub next : from + n + 1 ≡ line_next piece from
+  pub ended : true ≡ line_ends piece from
 
-  pub found_bytes : take (from + r - from) (drop from s) ≡ line_bytes s from
-  unfolding line_bytes
-  found_bytes = ap (λ (n : ℕ). take n (drop from s)) (back ∙ is)
+-- there is none in the rest
+pub record GoesOn (piece : List ℕ) (from : ℕ) (rest : List ℕ) : Type 0 where
+  pub bytes : rest ≡ line_bytes piece from
+  pub next : length piece ≡ line_next piece from
+  pub ended : false ≡ line_ends piece from
+
+-- what the search for it gave
+module _ (piece : List ℕ) (from : ℕ) {rest : List ℕ} {r : Option ℕ} (is : rest ≡ drop from piece)
+    (e : r ≡ cond (ltb (position_or_len (λ b. eqb b 10) rest) (length rest)) (Some (position_or_len (λ b. eqb b 10) rest)) None) where
+  searched : r ≡ cond (ltb (first_newline piece from) (length (drop from piece))) (Some (first_newline piece from)) None
+  searched = rw (before_is 10 (drop from piece), ← is) e
+
+  pub found : (n : ℕ) → r ≡ Some n → Ends piece from n rest
+  unfolding line_bytes line_ends line_next
+  found n k = go (ltb (first_newline piece from) (length (drop from piece))) refl (sym searched ∙ k)
     where
-      back : from + r - from ≡ r
-      back = omega arith
+      go : (b : Bool) → ltb (first_newline piece from) (length (drop from piece)) ≡ b → cond b (Some (first_newline piece from)) None ≡ Some n → Ends piece from n rest
+      go true t q =
+          let p : n ≡ first_newline piece from = cc in
+          record { bytes = rw (p, is); next = rw (t, p); ended = sym t }
+      go false t q = cc
 
-  pub found : from + r < length s → true ≡ line_ends s from
-  unfolding line_ends
-  found k = sym (lt-ltb (before 10 (drop from s)) (length (drop from s)) (omega (arith, k, h, is, long)))
-
-  pub found_next : from + r < length s → from + r + 1 ≡ line_next s from
-  unfolding line_next
-  found_next k = rw (← found k, ← is)
-
-  pub not_found : length s ≤ from + r → false ≡ line_ends s from
-  unfolding line_ends
-  not_found k = sym (le-ltb (before 10 (drop from s)) (length (drop from s)) (omega (arith, k, h, is, long)))
-
-  pub not_found_next : length s ≤ from + r → from + r ≡ line_next s from
-  unfolding line_next
-  not_found_next k = rw (← not_found k) (omega (arith, k, found_within))
-
--- past the piece
-module _ (s : List ℕ) (from : ℕ) (h : length s ≤ from) where
-  rest : drop from s ≡ []
-  rest = drop_of_length-le s h
-
-  pub none : [] ≡ line_bytes s from
-  unfolding line_bytes before
-  none = rw rest
-
-  pub none_ends : false ≡ line_ends s from
-  unfolding line_ends before
-  none_ends = rw rest
-
-  pub none_next : length s ≡ line_next s from
-  unfolding line_next
-  none_next = rw (← none_ends)
+  pub not_found : r ≡ None → GoesOn piece from rest
+  unfolding line_bytes line_ends line_next
+  not_found k = go (ltb (first_newline piece from) (length (drop from piece))) refl (sym searched ∙ k)
+    where
+      go : (b : Bool) → ltb (first_newline piece from) (length (drop from piece)) ≡ b → cond b (Some (first_newline piece from)) None ≡ None → GoesOn piece from rest
+      go true t q = cc
+      go false t q = record { bytes = is ∙ sym (take_all (first_newline piece from) (drop from piece) (ltb-false _ _ t)); next = rw t; ended = sym t }

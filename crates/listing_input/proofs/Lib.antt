@@ -1,4 +1,5 @@
 pub mod Ends
+pub mod Chains
 pub mod Steps
 pub mod Names
 mod Examples

@@ -3,16 +3,21 @@ use Prim.Native.Nat.{ℕ, zero, suc, ◌+◌, ◌≤◌, ◌<◌}
 use mathlib.Core.Path.{◌≡◌, refl, sym, ap, ◌∙◌, subst}
 use mathlib.Core.Bool.{Bool, true, false, cond, ◌&&◌}
 use mathlib.Core.List.{List, [], ◌∷◌, map}
-use native.Mathlib.Nat.{le_refl, le_of_suc-le-suc, not-suc-le-zero}
+use native.Mathlib.Nat.{zero-add, le_refl, le_of_suc-le-suc, not-suc-le-zero}
 use native.Mathlib.Numerals.{add-one}
 use native.Mathlib.Omega.{arith}
 use lib.Dec.{T, ltb, leb, eqb, ltb→lt, leb→le}
 use lib.ListN.{length, get_or, drop, drop_of_length-le}
 use lib.Seq.{drop-cons}
 use mir.Facts.{and_yes}
-use borrow.Author.Tests.{eq-eqb, eqb-true}
+use borrow.Author.Tests.{eq-eqb, eqb-true, eqb-false}
+use Rattle.std.specs.Prelude.{Some}
+use Rattle.std.specs.List.{find, range_with_len}
+use Rattle.std.specs.Option.{unwrap_or}
 use Rattle.listing_input.specs.Text.{all}
-use Rattle.riscv.specs.Kind.{Kind, Ecall, kinds, kind_count, kind_at, kind_name, kind_names}
+use Rattle.riscv.specs.declared.Kind.{Kind}
+use Rattle.riscv.specs.declared.Kind.TheVariants.{Ecall}
+use Rattle.riscv.specs.Kind.{kinds, kind_count, kind_at, kind_name, kind_names}
 use Rattle.riscv.specs.Name.{most_letters, packed}
 use Rattle.listing_input.specs.Kinds.{same, place_of}
 use Rattle.listing_input.proofs.Steps.{and_right}
@@ -130,3 +135,30 @@ name_in (x ∷ xs) (suc k) h = name_in xs k (le_of_suc-le-suc h)
 pub name_at_lem : (k : ℕ) → k < kind_count → get_or kind_names k [] ≡ kind_name (kind_at k)
 unfolding kind_names
 name_at_lem k h = name_in kinds k h
+
+-- ---- a search of the kinds by the words of their names
+
+module _ (s : List ℕ) (bytes : (j : ℕ) → get_or s j 0 < 256) (w : ℕ) (is : w ≡ packed s) where
+  abbrev pub named : ℕ → Bool
+  named k = eqb (packed (kind_name (kind_at k))) w
+
+  named_yes : (k : ℕ) → k < kind_count → named k ≡ true → same s (get_or kind_names k []) ≡ true
+  named_yes k h e = same_yes s (get_or kind_names k []) bytes (name_bytes_lem k) (sym (eqb-true _ _ e ∙ is) ∙ ap packed (sym (name_at_lem k h)))
+
+  named_no : (k : ℕ) → k < kind_count → named k ≡ false → same s (get_or kind_names k []) ≡ false
+  named_no k h e = same_no s (get_or kind_names k []) (λ p. eqb-false _ _ e (ap packed (sym (name_at_lem k h)) ∙ sym p ∙ sym is))
+
+  kind_found : (n k : ℕ) → k + n ≡ kind_count → unwrap_or (find named (range_with_len k n)) kind_count ≡ k + place_of s (drop k kind_names)
+  kind_found zero k e = omega (arith, place_end kind_names k s (omega (arith, names_length)))
+  kind_found (suc n) k e = go (named k) refl (kind_found n (k + 1) (omega arith))
+    where
+      within : k < length kind_names
+      within = omega (arith, names_length)
+
+      go : (b : Bool) → named k ≡ b → unwrap_or (find named (range_with_len (k + 1) n)) kind_count ≡ k + 1 + place_of s (drop (k + 1) kind_names)
+          → unwrap_or (cond b (Some k) (find named (range_with_len (k + 1) n))) kind_count ≡ k + place_of s (drop k kind_names)
+      go true h rest = omega (arith, place_hit kind_names k within s (named_yes k (omega arith) h))
+      go false h rest = omega (arith, rest, place_miss kind_names k within s (named_no k (omega arith) h))
+
+  pub first_kind : unwrap_or (find named (range_with_len 0 kind_count)) kind_count ≡ place_of s kind_names
+  first_kind = kind_found kind_count 0 refl ∙ zero-add _

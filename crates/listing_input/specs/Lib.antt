@@ -2,4 +2,3 @@ pub mod Gather
 pub mod Text
 pub mod Kinds
 pub mod Line
-pub mod Parts

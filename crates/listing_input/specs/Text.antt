@@ -1,7 +1,5 @@
 -- Bytes as text: parting them, and decimal numbers.
-use Rattle.std.specs.Prelude.{ℕ, suc, ◌+◌, ◌-◌, ◌*◌, Bool, true, false, cond, not, ◌&&◌, List, [], ◌∷◌, ltb, leb, eqb}
-use Rattle.listing_input.specs.declared.line.Number.{Number}
-use Rattle.listing_input.specs.declared.line.Number.TheVariants.{Value, NotOne}
+use Rattle.std.specs.Prelude.{ℕ, suc, ◌+◌, ◌-◌, ◌*◌, Bool, true, false, cond, not, ◌&&◌, List, [], ◌∷◌, ltb, leb, eqb, Option, Some, None}
 
 -- every byte passes the test
 unfoldable pub all : (ℕ → Bool) → List ℕ → Bool
@@ -44,5 +42,5 @@ abbrev pub digits_value : List ℕ → ℕ
 digits_value bs = onward 0 bs
 
 -- the decimal number below the limit that the bytes are
-unfoldable pub number_below : ℕ → List ℕ → Number
-number_below limit bs = cond (decimal bs && ltb (digits_value bs) limit) (Value (digits_value bs)) NotOne
+unfoldable pub number_below : ℕ → List ℕ → Option ℕ
+number_below limit bs = cond (decimal bs && ltb (digits_value bs) limit) (Some (digits_value bs)) None

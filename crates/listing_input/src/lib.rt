@@ -3,55 +3,34 @@
 
 mod line;
 
-ghost use Rattle.std.specs.Prelude.{◌≡◌, ◌<◌, length};
+ghost use Rattle.std.specs.Prelude.{◌≡◌, length, is_some, unwrap_or};
 ghost use Rattle.text.specs.Put.{Put};
 ghost use Rattle.listing_input.specs.Gather.{line_bytes, line_ends, line_next};
 
-use line::up_to;
 pub use line::{Parsed, parse};
 
-// How many bytes the line has now, those that it had no room for among them; where in the piece to go on; and whether the line has ended.
+// How many bytes the line has now, those that it had no room for among them; and where in the piece to go on, if the line has ended there.
 #[derive(Clone, Copy)]
 pub struct Gathered {
     pub held: usize,
-    pub next: usize,
-    pub ended: bool,
+    pub next: Option<usize>,
 }
 
 // Puts the bytes of a piece, from a place on and up to a newline, after the `held` bytes of a line.
 pub fn gather(line: &mut [u8], held: usize, piece: &[u8], from: usize) -> Gathered
     ensures bytes { Put line.old held (line_bytes piece.now from) line.new result.held }
-    ensures next { result.next ≡ line_next piece.now from }
-    ensures ended { result.ended ≡ line_ends piece.now from }
+    ensures next { unwrap_or result.next (length piece.now) ≡ line_next piece.now from }
+    ensures ended { is_some result.next ≡ line_ends piece.now from }
 {
-    if piece.len() <= from {
-        return Gathered {
-            held,
-            next: piece.len(),
-            ended: false,
-        };
-    }
-    gather_some(line, held, piece, from)
-}
-
-fn gather_some(line: &mut [u8], held: usize, piece: &[u8], from: usize) -> Gathered
-    requires { from < length piece.now }
-    ensures bytes { Put line.old held (line_bytes piece.now from) line.new result.held }
-    ensures next { result.next ≡ line_next piece.now from }
-    ensures ended { result.ended ≡ line_ends piece.now from }
-{
-    let end = from + up_to(&piece[from..], b'\n');
-    let now_held = text::put_bytes(line, held, &piece[from..end]);
-    if end < piece.len() {
-        return Gathered {
-            held: now_held,
-            next: end + 1,
-            ended: true,
-        };
-    }
-    Gathered {
-        held: now_held,
-        next: end,
-        ended: false,
+    let rest = piece.get(from..).unwrap_or(&[]);
+    match rest.iter().position(|b| *b == b'\n') {
+        Some(n) => Gathered {
+            held: text::put_bytes(line, held, &rest[..n]),
+            next: Some(from + n + 1),
+        },
+        None => Gathered {
+            held: text::put_bytes(line, held, rest),
+            next: None,
+        },
     }
 }

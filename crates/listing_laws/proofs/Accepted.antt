@@ -1,4 +1,5 @@
 -- The listing's own start: its lines, that the start's check accepts it, x0's node, and demand 3 from it. Assumes nothing.
+use Rattle.std.specs.Prelude.{None}
 use Prim.Native.Nat.{ℕ, ◌+◌, ◌≤◌}
 use mathlib.Core.Path.{◌≡◌, refl, ◌∙◌, ap}
 use mathlib.Core.Bool.{Bool, false, not}
@@ -11,7 +12,6 @@ use Rattle.btor2.specs.Op.{map_op, carried}
 use Rattle.btor2.specs.Walk.{walk}
 use Rattle.btor2.specs.SortRule.{rule, is_state_op, judge, judged, all_right, meets_sort_rule}
 use Rattle.btor2.specs.Value.{Env, eval_op, values, value}
-use Rattle.btor2_list.specs.declared.MaybeAddress.TheVariants.{NoAddress}
 use Rattle.btor2_list.specs.Record.{capacity, words_for, record_at}
 use Rattle.btor2_list.specs.Node.{Node, op_of}
 use Rattle.btor2_list.specs.View.{view}
@@ -38,19 +38,19 @@ whole : length start_words ≡ words_for start_lines
 unfolding start_names concat start_name named_states start_ops records start_words
 whole = refl
 
-lines : view start_words start_lines ≡ numbered NoAddress first_nid start_ops
+lines : view start_words start_lines ≡ numbered None first_nid start_ops
 unfolding start_names concat start_name named_states start_ops records start_words view record_at op_of numbered
 lines = refl
 
-rising_nids : nids_out (first_nid + start_lines) (taken (numbered NoAddress first_nid start_ops)) ≡ false
+rising_nids : nids_out (first_nid + start_lines) (taken (numbered None first_nid start_ops)) ≡ false
 unfolding start_names concat start_name named_states start_ops numbered taken nids_out rising
 rising_nids = refl
 
-formed : (ours : ℕ) → unformed (length host_area) ours (ops (numbered NoAddress first_nid start_ops)) ≡ false
+formed : (ours : ℕ) → unformed (length host_area) ours (ops (numbered None first_nid start_ops)) ≡ false
 unfolding start_names concat host_area start_name named_states start_ops numbered unformed some op_unformed carried
 formed ours = refl
 
-sorted : not (meets_sort_rule (ops (numbered NoAddress first_nid start_ops))) ≡ false
+sorted : not (meets_sort_rule (ops (numbered None first_nid start_ops))) ≡ false
 unfolding start_names concat start_name named_states start_ops numbered meets_sort_rule judged walk judge rule is_state_op carried map_op all_right
 sorted = refl
 
@@ -68,7 +68,7 @@ module _ (words : List ℕ) (h : words_for start_lines ≤ length words) where
   put_length : length (start_in words) ≡ length words
   put_length = rw (put, length-append start_words (drop (words_for start_lines) words), whole, length-drop (words_for start_lines) words) (omega arith)
 
-  pub lines_put : view (start_in words) start_lines ≡ numbered NoAddress first_nid start_ops
+  pub lines_put : view (start_in words) start_lines ≡ numbered None first_nid start_ops
   lines_put = rw put (view_front start_words (drop (words_for start_lines) words) start_lines (rw whole (lit≤ tt)) ∙ lines)
 
   pub roles_put : not (roles_fit (start_in words) start_lines 0 start_roles) ≡ false
@@ -100,7 +100,7 @@ start_accepted words room h g =
 
 -- ---- demand 3
 
-zero_line : (env : Env) → (value env (ops (numbered NoAddress first_nid start_ops)) 2).num ≡ 0
+zero_line : (env : Env) → (value env (ops (numbered None first_nid start_ops)) 2).num ≡ 0
 unfolding start_names concat start_name named_states start_ops numbered walk map_op eval_op values value
 zero_line env = refl
 

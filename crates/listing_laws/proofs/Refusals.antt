@@ -1,4 +1,5 @@
 -- In every state that the listing reaches, the counts, the roles and the flag are as a call asks. Assumes nothing.
+use Rattle.std.specs.Prelude.{Option, Some, None}
 use Prim.Native.Nat.{ℕ, ◌+◌, ◌/◌, ◌≤◌}
 use mathlib.Core.Path.{◌≡◌, refl, sym, ◌∙◌, ap}
 use mathlib.Core.Bool.{Bool, true, false, ◌&&◌}
@@ -9,7 +10,6 @@ use lib.Dec.{eqb}
 use lib.ListN.{length, get_or, replicate, get_or-append}
 use Rattle.btor2.specs.declared.NodeRef.{NodeRef}
 use Rattle.btor2.specs.Op.{carried}
-use Rattle.btor2_list.specs.declared.MaybeAddress.TheVariants.{NoAddress}
 use Rattle.btor2_list.specs.Record.{capacity, words_for}
 use Rattle.btor2_list.specs.Node.{Node, no_node}
 use Rattle.btor2_list.specs.View.{view}
@@ -24,7 +24,6 @@ use Rattle.listing_bytes.specs.Listing.{steps, reached}
 use Rattle.listing_bytes.proofs.Room.{Kept, zeros, start_kept, emptied_kept, call_kept, lines_decide}
 use Rattle.listing_bytes.proofs.Core.{one_call}
 use Rattle.listing_input.specs.declared.line.Parsed.{Parsed}
-use Rattle.listing_input.specs.declared.line.Parsed.TheVariants.{Instruction as Instr, Malformed}
 use Rattle.listing_input.specs.Line.{parse_line}
 use Rattle.listing_start.specs.Start.{first_nid, start_lines, placed, start_names, concat, start_name, named_states, start_ops, start_in, start_state}
 use Rattle.state.specs.declared.State.{State}
@@ -60,7 +59,7 @@ held l st k = omega (arith, k.list, k.lines)
 
 -- ---- the start
 
-flag_line : value_sort (seen (get_or (numbered NoAddress first_nid start_ops) flag.0 nowhere)) ≡ 1
+flag_line : value_sort (seen (get_or (numbered None first_nid start_ops) flag.0 nowhere)) ≡ 1
 unfolding start_names concat start_name named_states start_ops numbered carried
 flag_line = refl
 
@@ -113,9 +112,9 @@ emptied_sound : (l : Lent) (st : State) → Sound l st → Sound l (emptied st)
 unfolding emptied
 emptied_sound l st s = record { kept = emptied_kept l st s.kept; begun = s.begun; nids = s.nids; size = s.size; roles = s.roles; bit = s.bit }
 
-parsed_sound : (number : ℕ) (l : Lent) (st : State) (p : Parsed) → Sound l st → Sound (parsed_step number l st p).lent (parsed_step number l st p).state
-parsed_sound number l st Malformed s = s
-parsed_sound number l st (Instr address kind rd rs1 rs2 imm) s = call_sound l st s _ address
+parsed_sound : (number : ℕ) (l : Lent) (st : State) (p : Option Parsed) → Sound l st → Sound (parsed_step number l st p).lent (parsed_step number l st p).state
+parsed_sound number l st None s = s
+parsed_sound number l st (Some p) s = call_sound l st s p.instruction p.address
 
 steps_sound : (number : ℕ) (lines : List (List ℕ)) (l : Lent) (st : State) → Sound l st → Sound (steps number lines l st).lent (steps number lines l st).state
 unfolding steps step

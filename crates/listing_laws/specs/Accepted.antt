@@ -1,8 +1,7 @@
 -- The listing's own start (document 01, "The listing program has its own start"), in words of any length that holds it: its lines, that the
 -- start's check accepts it, and so what demand 3 says of any list of calls from it.
-use Rattle.std.specs.Prelude.{ℕ, ◌≤◌, ◌≡◌, List, length}
+use Rattle.std.specs.Prelude.{ℕ, ◌≤◌, ◌≡◌, List, length, None}
 use Rattle.btor2.specs.Value.{Env}
-use Rattle.btor2_list.specs.declared.MaybeAddress.TheVariants.{NoAddress}
 use Rattle.btor2_list.specs.Record.{words_for}
 use Rattle.btor2_list.specs.View.{view}
 use Rattle.state.specs.declared.room.Room.{Room}
@@ -14,7 +13,7 @@ use Rattle.demand.specs.Demand3.{Records, NoneExcluded, ZeroRegister, Means}
 
 -- its lines are the definition's, under the identifiers 20 to 58
 abbrev pub StartLines : Type 0
-StartLines = (words : List ℕ) → words_for start_lines ≤ length words → view (start_in words) start_lines ≡ numbered NoAddress first_nid start_ops
+StartLines = (words : List ℕ) → words_for start_lines ≤ length words → view (start_in words) start_lines ≡ numbered None first_nid start_ops
 
 -- none of 9 to 13 applies, whatever the room, where it holds as many lines
 abbrev pub StartAccepted : Type 0

@@ -13,13 +13,12 @@ use Rattle.lowering.specs.Lowering.{Lent}
 use Rattle.state.specs.declared.State.{State}
 use Rattle.text.specs.Put.{Put}
 use Rattle.text.proofs.Laws.{then, put_length}
-use Rattle.listing_bytes.specs.declared.Reading.{Reading}
 use Rattle.listing_bytes.specs.Storage.{out_room}
 use Rattle.listing_bytes.specs.Pieces.{Progress, progress, reading, Told, told, and_then, line_ended, byte_held, take_byte, take_bytes, take_pieces, input_ended, start}
 use Rattle.listing_bytes.specs.Listing.{listing}
 use Rattle.listing_bytes.specs.Laws.{TextFits}
 use Rattle.listing_bytes.proofs.Whole.{two_pieces, any_pieces}
-use Rattle.listing_run.specs.Turn.{line_on, Reaches, IsReached, Lists}
+use Rattle.listing_run.specs.Turn.{line_on, Reaches, Lists}
 
 pub here : (p : Progress) → Reaches p p
 unfolding take_bytes
@@ -60,6 +59,13 @@ goes_on {a} {b} {c} {x} {y} {z} {p} {q} {r} {more} {least} u v = record {
   ended = v.ended;
   goes_on = λ e. let m = u.goes_on refl in let n = v.goes_on e in omega (arith, length-append u.input v.input);
 }
+
+-- where no more is to be read, any number of bytes may have been read
+pub no_more : {a b x y : Option (List ℕ)} {p q : Progress} {least least' : ℕ} → Lists a b x y p q false least → Lists a b x y p q false least'
+no_more u = record { input = u.input; read = u.read; is = u.is; wrote = u.wrote; ended = u.ended; goes_on = λ f. absurd (true≢false (sym f)) }
+
+pub reached : {a b x y : Option (List ℕ)} {p q : Progress} {more : Bool} {least : ℕ} → Lists a b x y p q more least → Reaches p q
+reached u = record { input = u.input; is = u.is }
 
 -- a whole input, and what is written where it has ended
 module _ (input : List ℕ) (short : length input < 2 ^ 64 - 1) where
@@ -106,9 +112,8 @@ take_min n l =
 pub put_within : {out text out' : List ℕ} {n : ℕ} → Put out 0 text out' n → length text ≤ out_room → length out ≡ out_room → n ≤ length out'
 put_within u h k = omega (arith, u.next, put_length u)
 
-pub same_progress : {l l' : Lent} {st st' : State} {n n' : ℕ} (line : List ℕ) (held : ℕ) → l ≡ l' → st ≡ st' → n ≡ n'
-    → progress l line (reading st n held) ≡ progress l' line (reading st' n' held)
-same_progress line held p q r = λ i. progress (p i) line (reading (q i) (r i) held)
+pub same_progress : {l l' : Lent} {st st' : State} {line : List ℕ} {n held : ℕ} → l ≡ l' → st ≡ st' → progress l line (reading st n held) ≡ progress l' line (reading st' n held)
+same_progress {line = line} {n = n} {held = held} p q = λ i. progress (p i) line (reading (q i) n held)
 
 -- ---- a line
 
@@ -232,9 +237,9 @@ module _ (piece : List ℕ) (from : ℕ) where
       ∙ ap (λ (s : List ℕ). (take_bytes s p₀).progress) e
 
   -- so what a turn leaves is reached
-  pub turn_left : {p₀ p : Progress} {l : Lent} {line : List ℕ} {r : Reading} {next : ℕ} → progress l line r ≡ (take_bytes (line_on piece from) p).progress
-      → p ≡ (take_bytes (take from piece) p₀).progress → from ≤ length piece → next ≡ line_next piece from → IsReached p₀ l line
-  turn_left {p₀} {r = r} {next = next} on so h is = record { reading = r; by = record { input = take next piece; is = turn p₀ h so on is } }
+  pub turn_reaches : {p₀ p q : Progress} {next : ℕ} → q ≡ (take_bytes (line_on piece from) p).progress → p ≡ (take_bytes (take from piece) p₀).progress → from ≤ length piece
+      → next ≡ line_next piece from → Reaches p₀ q
+  turn_reaches {p₀} {next = next} on so h is = record { input = take next piece; is = turn p₀ h so on is }
 
   -- and its text follows
   pub turn_text : (p₀ : Progress) {p : Progress} {next : ℕ} → from ≤ length piece → p ≡ (take_bytes (take from piece) p₀).progress → next ≡ line_next piece from

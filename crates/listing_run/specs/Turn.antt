@@ -2,10 +2,8 @@
 -- and that a run reads those bytes and writes what comes of them.
 use Rattle.std.specs.Prelude.{◌≡◌, ℕ, ◌-◌, ◌≤◌, Bool, true, false, List, length, take, drop, Option}
 use Rattle.std.specs.Io.KnownBytes.{Appends, Consumes, IsAtEnd}
-use Rattle.lowering.specs.Lowering.{Lent}
 use Rattle.listing_input.specs.Gather.{line_next}
-use Rattle.listing_bytes.specs.declared.Reading.{Reading}
-use Rattle.listing_bytes.specs.Pieces.{Progress, progress, take_bytes}
+use Rattle.listing_bytes.specs.Pieces.{Progress, take_bytes}
 
 -- of a piece, the bytes from a place on up to a newline, and that newline
 abbrev pub line_on : List ℕ → ℕ → List ℕ
@@ -14,11 +12,6 @@ line_on piece from = take (line_next piece from - from) (drop from piece)
 pub record Reaches (p q : Progress) : Type 0 where
   pub input : List ℕ
   pub is : q ≡ (take_bytes input p).progress
-
--- what is lent for the lowering and for a line comes of a progress by some bytes
-pub record IsReached (p : Progress) (l : Lent) (line : List ℕ) : Type 0 where
-  pub reading : Reading
-  pub by : Reaches p (progress l line reading)
 
 -- some bytes were read, one progress comes of the other by them, and the text that comes of them was written. Where no more is to be read,
 -- none is left; else they are so many at least

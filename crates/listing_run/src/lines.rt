@@ -1,141 +1,112 @@
-// Takes the input in pieces, a line at a time, and puts each line's output into a lent one.
-ghost use Rattle.std.specs.Prelude.{◌≡◌, min};
+// The listing while it runs: takes the input in pieces, a line at a time, and puts each line's output into a lent one.
+ghost use Rattle.std.specs.Prelude.{◌≡◌};
 ghost use Rattle.listing_input.specs.Gather.{line_next};
-ghost use Rattle.lowering.specs.Lowering.{lent};
 ghost use Rattle.text.specs.Put.{Put};
-ghost use Rattle.listing_bytes.specs.Pieces.{progress, take_bytes, line_ended, input_ended, start};
+ghost use Rattle.listing_bytes.specs.Pieces.{take_bytes, line_ended, input_ended, start};
+ghost use Rattle.lowering.specs.Lowering.{lent_by, SameLent};
 ghost use Rattle.listing_run.specs.Turn.{line_on};
+ghost use Rattle.listing_run.specs.Lister.{progress_of, held_step, SameLists};
 
 use listing_bytes::Reading;
 use listing_input::gather;
-use listing_step::step;
+use listing_step::{Stepped, step};
+use lowering::Lent;
 
-// What has been read, where in the piece to go on, and how many bytes of output were put.
+// The bytes that are lent for the line that is being read, and how far the reading is.
+#[derive(Drop)]
+pub(crate) struct Lister<'a> {
+    pub line: &'a mut [u8],
+    pub reading: Reading,
+}
+
+// Where in the piece to go on, and how many bytes of output were put.
 #[derive(Clone, Copy)]
 pub(crate) struct Taken {
-    pub reading: Reading,
     pub next: usize,
     pub length: usize,
 }
 
-// What has been read, and how many bytes of output were put.
-#[derive(Clone, Copy)]
-pub(crate) struct Ended {
-    pub reading: Reading,
-    pub length: usize,
-}
-
-// Before anything is read.
-pub(crate) fn start_reading() -> Reading
-    ensures { result ≡ start.reading }
-{
-    Reading {
-        state: listing_start::start_state(),
-        number: 1,
-        held: 0,
+impl<'a> Lister<'a> {
+    // Before anything is read.
+    pub(crate) fn new(line: &'a mut [u8]) -> Lister<'a>
+        ensures reading { result.reading ≡ start.reading }
+        ensures line { result.line.now ≡ line.old }
+        ensures same { result.line.ghost_name ≡ line.entry.ghost_name }
+    {
+        Lister {
+            line,
+            reading: Reading {
+                state: listing_start::start_state(),
+                number: 1,
+                held: 0,
+            },
+        }
     }
-}
 
-// Takes the bytes of a piece from a place on, up to a newline and with it; where there is one, puts the line's output.
-pub(crate) fn take_line(
-    list: &mut [u64],
-    names: &mut [u8],
-    edges: &mut [u64],
-    dispatches: &mut [u64],
-    bads: &mut [u64],
-    line: &mut [u8],
-    out: &mut [u8],
-    piece: &[u8],
-    from: usize,
-    reading: Reading,
-) -> Taken
-    ensures progress { progress (lent list.new names.new edges.new dispatches.new bads.new) line.new result.reading ≡ (take_bytes (line_on piece.now from) (progress (lent list.old names.old edges.old dispatches.old bads.old) line.old reading)).progress }
-    ensures text { Put out.old 0 (take_bytes (line_on piece.now from) (progress (lent list.old names.old edges.old dispatches.old bads.old) line.old reading)).text out.new result.length }
-    ensures next { result.next ≡ line_next piece.now from }
-{
-    let g = gather(line, reading.held, piece, from);
-    let state = reading.state;
-    let more = Reading {
-        state,
-        number: reading.number,
-        held: g.held,
-    };
-    if g.ended {
-        let e = end_line(list, names, edges, dispatches, bads, line, out, more);
-        let after = e.reading;
-        return Taken {
-            reading: after,
-            next: g.next,
-            length: e.length,
-        };
+    // Takes the bytes of a piece from a place on, up to a newline and with it; where there is one, puts the line's output.
+    pub(crate) fn take_line(
+        &mut self,
+        lent: &mut Lent,
+        out: &mut [u8],
+        piece: &[u8],
+        from: usize,
+    ) -> Taken
+        ensures progress { progress_of lent.new self.new ≡ (take_bytes (line_on piece.now from) (progress_of lent.old self.old)).progress }
+        ensures text { Put out.old 0 (take_bytes (line_on piece.now from) (progress_of lent.old self.old)).text out.new result.length }
+        ensures next { result.next ≡ line_next piece.now from }
+        ensures same { SameLists lent.old self.old lent.new self.new }
+    {
+        let held = self.reading.held;
+        let gathered = gather(self.line, held, piece, from);
+        self.reading.held = gathered.held;
+        match gathered.next {
+            Some(next) => Taken {
+                next,
+                length: self.end_line(lent, out),
+            },
+            None => Taken {
+                next: piece.len(),
+                length: 0,
+            },
+        }
     }
-    Taken {
-        reading: more,
-        next: g.next,
-        length: 0,
-    }
-}
 
-// Where the input has ended: the last newline may be missing.
-pub(crate) fn end_input(
-    list: &mut [u64],
-    names: &mut [u8],
-    edges: &mut [u64],
-    dispatches: &mut [u64],
-    bads: &mut [u64],
-    line: &[u8],
-    out: &mut [u8],
-    reading: Reading,
-) -> Ended
-    ensures progress { progress (lent list.new names.new edges.new dispatches.new bads.new) line.now result.reading ≡ (input_ended (progress (lent list.old names.old edges.old dispatches.old bads.old) line.now reading)).progress }
-    ensures text { Put out.old 0 (input_ended (progress (lent list.old names.old edges.old dispatches.old bads.old) line.now reading)).text out.new result.length }
-{
-    if reading.held == 0 {
-        return Ended { reading, length: 0 };
+    // Where the input has ended: the last newline may be missing.
+    pub(crate) fn end_input(&mut self, lent: &mut Lent, out: &mut [u8]) -> usize
+        ensures progress { progress_of lent.new self.new ≡ (input_ended (progress_of lent.old self.old)).progress }
+        ensures text { Put out.old 0 (input_ended (progress_of lent.old self.old)).text out.new result }
+        ensures same { SameLists lent.old self.old lent.new self.new }
+    {
+        if self.reading.held == 0 {
+            return 0;
+        }
+        self.end_line(lent, out)
     }
-    end_line(list, names, edges, dispatches, bads, line, out, reading)
-}
 
-// Takes the line that is held.
-fn end_line(
-    list: &mut [u64],
-    names: &mut [u8],
-    edges: &mut [u64],
-    dispatches: &mut [u64],
-    bads: &mut [u64],
-    line: &[u8],
-    out: &mut [u8],
-    reading: Reading,
-) -> Ended
-    ensures progress { progress (lent list.new names.new edges.new dispatches.new bads.new) line.now result.reading ≡ (line_ended (progress (lent list.old names.old edges.old dispatches.old bads.old) line.now reading)).progress }
-    ensures text { Put out.old 0 (line_ended (progress (lent list.old names.old edges.old dispatches.old bads.old) line.now reading)).text out.new result.length }
-{
-    let n = least(reading.held, line.len());
-    let state = reading.state;
-    let r = step(
-        list,
-        names,
-        edges,
-        dispatches,
-        bads,
-        out,
-        state,
-        reading.number,
-        &line[..n],
-    );
-    let after = r.state;
-    Ended {
-        reading: Reading {
-            state: after,
-            number: std::num::wrapping_add_u64(reading.number, 1),
+    // Takes the line that is held.
+    fn end_line(&mut self, lent: &mut Lent, out: &mut [u8]) -> usize
+        ensures progress { progress_of lent.new self.new ≡ (line_ended (progress_of lent.old self.old)).progress }
+        ensures text { Put out.old 0 (line_ended (progress_of lent.old self.old)).text out.new result }
+        ensures same { SameLists lent.old self.old lent.new self.new }
+    {
+        let stepped = self.step_line(lent, out);
+        self.reading = Reading {
+            state: stepped.state,
+            number: self.reading.number.wrapping_add(1),
             held: 0,
-        },
-        length: r.length,
+        };
+        stepped.length
     }
-}
 
-fn least(a: usize, b: usize) -> usize
-    ensures { result ≡ min a b }
-{
-    if a < b { a } else { b }
+    // The step of the line that is held.
+    fn step_line(&self, lent: &mut Lent, out: &mut [u8]) -> Stepped
+        ensures state { result.state ≡ (held_step (progress_of lent.old self.now)).state }
+        ensures lists { lent_by lent.new ≡ (held_step (progress_of lent.old self.now)).lent }
+        ensures text { Put out.old 0 (held_step (progress_of lent.old self.now)).text out.new result.length }
+        ensures same { SameLent lent.old lent.new }
+    {
+        let reading = self.reading;
+        let n = reading.held.min(self.line.len());
+        step(lent, out, reading.state, reading.number, &self.line[..n])
+    }
 }

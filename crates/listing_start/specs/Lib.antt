@@ -1,1 +1,2 @@
 pub mod Start
+pub mod Table

@@ -1,11 +1,10 @@
 -- The listing program's own start (document 01, "The listing program has its own start").
-use Rattle.std.specs.Prelude.{ℕ, zero, suc, ◌+◌, ◌-◌, cond, List, [], ◌∷◌, ◌++◌, map, ltb, length, get_or, take, drop}
+use Rattle.std.specs.Prelude.{ℕ, zero, suc, ◌+◌, ◌-◌, cond, List, [], ◌∷◌, ◌++◌, map, ltb, length, get_or, take, drop, None}
 use Rattle.btor2.specs.declared.Name.{Name}
 use Rattle.btor2.specs.declared.NodeRef.{NodeRef}
 use Rattle.btor2.specs.declared.NodeType.{NodeType}
 use Rattle.btor2.specs.declared.NodeType.TheVariants.{Bit, Word, Memory}
 use Rattle.btor2.specs.Op.{Op, const, state, unknown}
-use Rattle.btor2_list.specs.declared.MaybeAddress.TheVariants.{NoAddress}
 use Rattle.btor2_list.specs.Record.{capacity, words_for, words}
 use Rattle.btor2_list.specs.declared.Line.{Line}
 use Rattle.btor2_list.specs.Node.{line_of}
@@ -56,14 +55,14 @@ start_ops =
 -- the records of lines under identifiers that go up by one
 unfoldable pub records : ℕ → List (Op ℕ) → List ℕ
 records nid [] = []
-records nid (o ∷ os) = words (line_of NoAddress nid o) ++ records (nid + 1) os
+records nid (o ∷ os) = words (line_of None nid o) ++ records (nid + 1) os
 
 unfoldable pub start_words : List ℕ
 start_words = records first_nid start_ops
 
 -- the record of line k
 abbrev pub start_line : ℕ → Line
-start_line k = line_of NoAddress (first_nid + k) (get_or start_ops k unknown)
+start_line k = line_of None (first_nid + k) (get_or start_ops k unknown)
 
 -- the lent words with the start in front, where they hold it
 unfoldable pub start_in : List ℕ → List ℕ

@@ -1,11 +1,14 @@
 // The listing program's own start: its lines, and its state.
 #![tactic(auto)]
 
-ghost use Rattle.std.specs.Prelude.{◌≡◌, ◌<◌, get_or};
-ghost use Rattle.listing_start.specs.Start.{start_lines, start_line, start_in, start_state};
+ghost use Rattle.std.specs.Prelude.{◌≡◌, ◌+◌, ◌<◌, None};
+ghost use Rattle.btor2_list.specs.Node.{line_of};
+ghost use Rattle.listing_start.specs.Start.{start_in, start_state};
+ghost use Rattle.listing_start.specs.Table.{start_op};
 
-use btor2::{Name, Nid, NodeRef};
-use btor2_list::{Line, MaybeAddress, capacity, put};
+use btor2::NodeType::{Bit, Memory, Word};
+use btor2::{Name, Nid, NodeRef, NodeType};
+use btor2_list::{CONST, HOST_AREA, Line, STATE, capacity, put};
 use builder::Tally;
 use state::{Counts, State};
 
@@ -18,63 +21,92 @@ const FIRST_NID: u64 = 20;
 
 const NEXT_NID: u64 = FIRST_NID + LINES as u64;
 
-// Line k of the start, by the columns of its lines: kind, sort, a constant's value, and the area, the place and the length of a state's name.
-fn start_line(k: usize) -> Line
-    requires { k < start_lines }
-    ensures { result ≡ start_line k }
-{
-    let kind = byte_at(
-        b"\x01\x01\x01\x01\x13\x13\x13\x13\x13\x13\x13\x13\x13\x13\x13\x13\x13\x13\x13\x13\x13\x13\x13\x13\x13\x13\x13\x13\x13\x13\x13\x13\x13\x13\x13\x13\x13\x13\x13",
-        k,
-    );
-    let sort = byte_at(
-        b"\x01\x01\x02\x02\x02\x02\x02\x02\x02\x02\x02\x02\x02\x02\x02\x02\x02\x02\x02\x02\x02\x02\x02\x02\x02\x02\x02\x02\x02\x02\x02\x02\x02\x02\x02\x03\x03\x02\x01",
-        k,
-    );
-    let imm = byte_at(
-        b"\x00\x01\x00\x01\x00\x00\x00\x00\x00\x00\x00\x00\x00\x00\x00\x00\x00\x00\x00\x00\x00\x00\x00\x00\x00\x00\x00\x00\x00\x00\x00\x00\x00\x00\x00\x00\x00\x00\x00",
-        k,
-    );
-    let area = byte_at(
-        b"\x00\x00\x00\x00\x01\x01\x01\x01\x01\x01\x01\x01\x01\x01\x01\x01\x01\x01\x01\x01\x01\x01\x01\x01\x01\x01\x01\x01\x01\x01\x01\x01\x01\x01\x01\x01\x01\x01\x01",
-        k,
-    );
-    let at = byte_at(
-        b"\x00\x00\x00\x00\x00\x02\x04\x06\x08\x0a\x0c\x0e\x10\x12\x15\x18\x1b\x1e\x21\x24\x27\x2a\x2d\x30\x33\x36\x39\x3c\x3f\x42\x45\x48\x4b\x4e\x51\x54\x5a\x61\x6c",
-        k,
-    );
-    let len = byte_at(
-        b"\x00\x00\x00\x00\x02\x02\x02\x02\x02\x02\x02\x02\x02\x03\x03\x03\x03\x03\x03\x03\x03\x03\x03\x03\x03\x03\x03\x03\x03\x03\x03\x03\x03\x03\x03\x06\x07\x0b\x04",
-        k,
-    );
-    let none = NodeRef(0);
-    Line {
-        nid: Nid(FIRST_NID + k as u64),
-        kind,
-        sort,
-        op1: none,
-        op2: none,
-        op3: none,
-        imm,
-        name: Name { area, at, len },
-        address: MaybeAddress::NoAddress,
-    }
+// A line of the start: a constant of a sort, or a state of a sort with the place and the length of its name in the host's area.
+#[derive(Clone, Copy)]
+enum StartLine {
+    Const(NodeType, u64),
+    State(NodeType, u64, u64),
 }
 
-// A byte of a column, 0 past its end.
-fn byte_at(column: &[u8], k: usize) -> u64
-    ensures { result ≡ get_or column.now k 0 }
-{
-    if column.len() <= k {
-        return 0;
-    }
-    widened(column[k])
-}
+static START: [StartLine; LINES] = [
+    StartLine::Const(Bit, 0),
+    StartLine::Const(Bit, 1),
+    StartLine::Const(Word, 0),
+    StartLine::Const(Word, 1),
+    StartLine::State(Word, 0, 2),
+    StartLine::State(Word, 2, 2),
+    StartLine::State(Word, 4, 2),
+    StartLine::State(Word, 6, 2),
+    StartLine::State(Word, 8, 2),
+    StartLine::State(Word, 10, 2),
+    StartLine::State(Word, 12, 2),
+    StartLine::State(Word, 14, 2),
+    StartLine::State(Word, 16, 2),
+    StartLine::State(Word, 18, 3),
+    StartLine::State(Word, 21, 3),
+    StartLine::State(Word, 24, 3),
+    StartLine::State(Word, 27, 3),
+    StartLine::State(Word, 30, 3),
+    StartLine::State(Word, 33, 3),
+    StartLine::State(Word, 36, 3),
+    StartLine::State(Word, 39, 3),
+    StartLine::State(Word, 42, 3),
+    StartLine::State(Word, 45, 3),
+    StartLine::State(Word, 48, 3),
+    StartLine::State(Word, 51, 3),
+    StartLine::State(Word, 54, 3),
+    StartLine::State(Word, 57, 3),
+    StartLine::State(Word, 60, 3),
+    StartLine::State(Word, 63, 3),
+    StartLine::State(Word, 66, 3),
+    StartLine::State(Word, 69, 3),
+    StartLine::State(Word, 72, 3),
+    StartLine::State(Word, 75, 3),
+    StartLine::State(Word, 78, 3),
+    StartLine::State(Word, 81, 3),
+    StartLine::State(Memory, 84, 6),
+    StartLine::State(Memory, 90, 7),
+    StartLine::State(Word, 97, 11),
+    StartLine::State(Bit, 108, 4),
+];
 
-fn widened(b: u8) -> u64
-    ensures { result ≡ b }
+// The line under an identifier.
+fn line_of(nid: u64, line: StartLine) -> Line
+    ensures { result ≡ line_of None nid (start_op line) }
 {
-    b as u64
+    let no_line = Line {
+        nid: Nid(nid),
+        kind: CONST,
+        sort: 0,
+        op1: NodeRef(0),
+        op2: NodeRef(0),
+        op3: NodeRef(0),
+        imm: 0,
+        name: Name {
+            area: 0,
+            at: 0,
+            len: 0,
+        },
+        address: None,
+    };
+    match line {
+        StartLine::Const(sort, imm) => Line {
+            kind: CONST,
+            sort: btor2::get_sort(sort),
+            imm,
+            ..no_line
+        },
+        StartLine::State(sort, at, len) => Line {
+            kind: STATE,
+            sort: btor2::get_sort(sort),
+            name: Name {
+                area: HOST_AREA,
+                at,
+                len,
+            },
+            ..no_line
+        },
+    }
 }
 
 // The start's lines, where there is room for them all.
@@ -84,12 +116,18 @@ pub fn put_start(list: &mut [u64])
     if capacity(list.len()) < LINES {
         return;
     }
-    let mut k = 0;
-    while k < LINES {
-        put(list, NodeRef(k), start_line(k));
-        k += 1;
+    for (k, line) in START.iter().enumerate() {
+        put(list, NodeRef(k), line_of(FIRST_NID + k as u64, *line));
     }
 }
+
+// The places of the nodes and the flows.
+static ROLES: [usize; 79] = [
+    0, 1, 2, 3, 35, 36, 37, 2, 4, 5, 6, 7, 8, 9, 10, 11, 12, 13, 14, 15, 16, 17, 18, 19, 20, 21,
+    22, 23, 24, 25, 26, 27, 28, 29, 30, 31, 32, 33, 34, 4, 5, 6, 7, 8, 9, 10, 11, 12, 13, 14, 15,
+    16, 17, 18, 19, 20, 21, 22, 23, 24, 25, 26, 27, 28, 29, 30, 31, 32, 33, 34, 35, 36, 37, 3, 3,
+    2, 0, 0, 0,
+];
 
 pub fn start_state() -> State
     ensures { result ≡ start_state }
@@ -105,86 +143,6 @@ pub fn start_state() -> State
             dispatches: 0,
             bads: 0,
         },
-        roles: [
-            NodeRef(0),
-            NodeRef(1),
-            NodeRef(2),
-            NodeRef(3),
-            NodeRef(35),
-            NodeRef(36),
-            NodeRef(37),
-            NodeRef(2),
-            NodeRef(4),
-            NodeRef(5),
-            NodeRef(6),
-            NodeRef(7),
-            NodeRef(8),
-            NodeRef(9),
-            NodeRef(10),
-            NodeRef(11),
-            NodeRef(12),
-            NodeRef(13),
-            NodeRef(14),
-            NodeRef(15),
-            NodeRef(16),
-            NodeRef(17),
-            NodeRef(18),
-            NodeRef(19),
-            NodeRef(20),
-            NodeRef(21),
-            NodeRef(22),
-            NodeRef(23),
-            NodeRef(24),
-            NodeRef(25),
-            NodeRef(26),
-            NodeRef(27),
-            NodeRef(28),
-            NodeRef(29),
-            NodeRef(30),
-            NodeRef(31),
-            NodeRef(32),
-            NodeRef(33),
-            NodeRef(34),
-            NodeRef(4),
-            NodeRef(5),
-            NodeRef(6),
-            NodeRef(7),
-            NodeRef(8),
-            NodeRef(9),
-            NodeRef(10),
-            NodeRef(11),
-            NodeRef(12),
-            NodeRef(13),
-            NodeRef(14),
-            NodeRef(15),
-            NodeRef(16),
-            NodeRef(17),
-            NodeRef(18),
-            NodeRef(19),
-            NodeRef(20),
-            NodeRef(21),
-            NodeRef(22),
-            NodeRef(23),
-            NodeRef(24),
-            NodeRef(25),
-            NodeRef(26),
-            NodeRef(27),
-            NodeRef(28),
-            NodeRef(29),
-            NodeRef(30),
-            NodeRef(31),
-            NodeRef(32),
-            NodeRef(33),
-            NodeRef(34),
-            NodeRef(35),
-            NodeRef(36),
-            NodeRef(37),
-            NodeRef(3),
-            NodeRef(3),
-            NodeRef(2),
-            NodeRef(0),
-            NodeRef(0),
-            NodeRef(0),
-        ],
+        roles: ROLES.map(NodeRef),
     }
 }

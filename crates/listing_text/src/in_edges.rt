@@ -1,23 +1,23 @@
 // The listing's remarks on edges as text.
+ghost use Rattle.std.specs.Prelude.{◌≡◌};
 ghost use Rattle.line_text.specs.Line.{nodes};
 ghost use Rattle.text.specs.Ascii.{ascii};
 ghost use Rattle.text.specs.Put.{Put};
-ghost use Rattle.listing_text.specs.Remarks.{origin_word, condition_text, edge_text, edge_text_at, edges_text};
+ghost use Rattle.listing_text.specs.Remarks.{condition_text, edge_text, edges_text};
+ghost use Rattle.listing_text.specs.Remarks.{origin_word as Remarks·origin_word};
 
-use crate::{NEWLINE, SPACE};
 use btor2::NodeRef;
+use edges::{InEdge, Origin};
 use line_text::nid_at;
 
-fn put_origin(out: &mut [u8], at: usize, origin: u64) -> usize
-    ensures { Put out.old at (ascii (origin_word origin)) out.new result }
+fn origin_word(origin: u64) -> &'static [u8]
+    ensures { result.now ≡ ascii (Remarks·origin_word origin) }
 {
-    if origin == edges::REGULAR {
-        return text::put_bytes(out, at, b"regular");
+    match Origin::numbered(origin) {
+        Some(Origin::Regular) => b"regular",
+        Some(Origin::Branch) => b"branch",
+        _ => b"syscall",
     }
-    if origin == edges::BRANCH {
-        return text::put_bytes(out, at, b"branch");
-    }
-    text::put_bytes(out, at, b"syscall")
 }
 
 fn put_condition(out: &mut [u8], at: usize, list: &[u64], lines: usize, condition: u64) -> usize
@@ -30,53 +30,18 @@ fn put_condition(out: &mut [u8], at: usize, list: &[u64], lines: usize, conditio
     text::put_decimal(out, at, nid.0)
 }
 
-fn put_edge(
-    out: &mut [u8],
-    at: usize,
-    list: &[u64],
-    lines: usize,
-    to: u64,
-    from: u64,
-    origin: u64,
-    condition: u64,
-) -> usize
-    ensures { Put out.old at (edge_text (nodes list.now lines) to from origin condition) out.new result }
+fn put_edge(out: &mut [u8], at: usize, list: &[u64], lines: usize, edge: InEdge) -> usize
+    ensures { Put out.old at (edge_text (nodes list.now lines) edge.to edge.from edge.origin edge.condition.0) out.new result }
 {
-    let p0 = text::put_bytes(out, at, b"; in ");
-    let p1 = text::put_decimal(out, p0, to);
-    let p2 = text::put_bytes(out, p1, b" from ");
-    let p3 = text::put_decimal(out, p2, from);
-    let p4 = text::put_byte(out, p3, SPACE);
-    let p5 = put_origin(out, p4, origin);
-    let p6 = text::put_byte(out, p5, SPACE);
-    let p7 = put_condition(out, p6, list, lines, condition);
-    text::put_byte(out, p7, NEWLINE)
-}
-
-fn put_edge_at(
-    out: &mut [u8],
-    at: usize,
-    list: &[u64],
-    lines: usize,
-    records: &[u64],
-    k: usize,
-) -> usize
-    ensures { Put out.old at (edge_text_at (nodes list.now lines) records.now k) out.new result }
-{
-    if records.len() / edges::EDGE <= k {
-        return at;
-    }
-    let b = k * edges::EDGE;
-    put_edge(
-        out,
-        at,
-        list,
-        lines,
-        records[b],
-        records[b + 1],
-        records[b + 2],
-        records[b + 3],
-    )
+    let at = text::put_bytes(out, at, b"; in ");
+    let at = text::put_decimal(out, at, edge.to);
+    let at = text::put_bytes(out, at, b" from ");
+    let at = text::put_decimal(out, at, edge.from);
+    let at = text::put_byte(out, at, b' ');
+    let at = text::put_bytes(out, at, origin_word(edge.origin));
+    let at = text::put_byte(out, at, b' ');
+    let at = put_condition(out, at, list, lines, edge.condition.0 as u64);
+    text::put_byte(out, at, b'\n')
 }
 
 // The first `count` edges, their conditions being lines of the list.
@@ -91,10 +56,14 @@ pub fn put_edges(
     ensures { Put out.old at (edges_text (nodes list.now lines) records.now count) out.new result }
 {
     let mut p = at;
-    let mut k = 0;
-    while k < count {
-        p = put_edge_at(out, p, list, lines, records, k);
-        k += 1;
+    for record in records.chunks_exact(edges::EDGE).take(count) {
+        let edge = InEdge {
+            to: record[0],
+            from: record[1],
+            origin: record[2],
+            condition: NodeRef(record[3] as usize),
+        };
+        p = put_edge(out, p, list, lines, edge);
     }
     p
 }

@@ -4,43 +4,28 @@
 mod in_edges;
 
 ghost use Rattle.text.specs.Put.{Put};
-ghost use Rattle.listing_text.specs.Remarks.{dispatch_text, refused_text, dispatch_text_at, dispatches_text};
+ghost use Rattle.listing_text.specs.Remarks.{dispatch_text, refused_text, dispatches_text};
 
 pub use in_edges::put_edges;
-
-pub(crate) const SPACE: u8 = 32;
-
-pub(crate) const NEWLINE: u8 = 10;
 
 fn put_dispatch(out: &mut [u8], at: usize, register: u64, from: u64) -> usize
     ensures { Put out.old at (dispatch_text register from) out.new result }
 {
-    let p0 = text::put_bytes(out, at, b"; dyn ");
-    let p1 = text::put_decimal(out, p0, register);
-    let p2 = text::put_byte(out, p1, SPACE);
-    let p3 = text::put_decimal(out, p2, from);
-    text::put_byte(out, p3, NEWLINE)
+    let at = text::put_bytes(out, at, b"; dyn ");
+    let at = text::put_decimal(out, at, register);
+    let at = text::put_byte(out, at, b' ');
+    let at = text::put_decimal(out, at, from);
+    text::put_byte(out, at, b'\n')
 }
 
-fn put_dispatch_at(out: &mut [u8], at: usize, records: &[u64], k: usize) -> usize
-    ensures { Put out.old at (dispatch_text_at records.now k) out.new result }
-{
-    if records.len() / edges::DISPATCH <= k {
-        return at;
-    }
-    let b = k * edges::DISPATCH;
-    put_dispatch(out, at, records[b], records[b + 1])
-}
-
-// The first `count` dispatches.
+// The first `count` dispatches. `put_edges` goes over its records in the same way, with the list besides: one function over a closure would be no
+// plainer.
 pub fn put_dispatches(out: &mut [u8], at: usize, records: &[u64], count: usize) -> usize
     ensures { Put out.old at (dispatches_text records.now count) out.new result }
 {
     let mut p = at;
-    let mut k = 0;
-    while k < count {
-        p = put_dispatch_at(out, p, records, k);
-        k += 1;
+    for record in records.chunks_exact(edges::DISPATCH).take(count) {
+        p = put_dispatch(out, p, record[0], record[1]);
     }
     p
 }
@@ -49,9 +34,9 @@ pub fn put_dispatches(out: &mut [u8], at: usize, records: &[u64], count: usize) 
 pub fn put_refused(out: &mut [u8], at: usize, line: u64, number: u64) -> usize
     ensures { Put out.old at (refused_text line number) out.new result }
 {
-    let p0 = text::put_bytes(out, at, b"; refused ");
-    let p1 = text::put_decimal(out, p0, line);
-    let p2 = text::put_byte(out, p1, SPACE);
-    let p3 = text::put_decimal(out, p2, number);
-    text::put_byte(out, p3, NEWLINE)
+    let at = text::put_bytes(out, at, b"; refused ");
+    let at = text::put_decimal(out, at, line);
+    let at = text::put_byte(out, at, b' ');
+    let at = text::put_decimal(out, at, number);
+    text::put_byte(out, at, b'\n')
 }

@@ -1,6 +1,8 @@
 -- Many calls in one: each by `lowering`, from what the one before it left, up to the first that is refused.
-use Rattle.std.specs.Prelude.{ℕ, ◌+◌, ◌/◌, cond, true, false, List, [], ◌∷◌, eqb, ltb, length, get_or}
+use Rattle.std.specs.Prelude.{ℕ, ◌+◌, ◌/◌, cond, true, false, List, [], ◌∷◌, eqb, ltb, length, get_or, Option, Some, None}
 use Rattle.btor2_list.specs.Records.{records_in}
+use Rattle.refusals.specs.declared.Refusal.{Refusal}
+use Rattle.refusals.specs.Refusal.{refusal_number}
 use Rattle.state.specs.declared.State.{State}
 use Rattle.lowering.specs.declared.LowerCall.{LowerCall}
 use Rattle.lowering.specs.Lowering.{Lent, lowering}
@@ -23,6 +25,11 @@ abbrev pub calls_in : ℕ → List ℕ → List LowerCall
 calls_in n ws = records_in call_words call_in n ws
 
 -- ---- one after the other
+
+-- the number of the refusal that stopped them, 0 where none did
+abbrev pub stopped_with : Option Refusal → ℕ
+stopped_with None = 0
+stopped_with (Some r) = refusal_number r
 
 -- what they give: how many were accepted, the refusal of the next one or 0, the state, and the lent lists
 pub record AnswerAll : Type 0 where

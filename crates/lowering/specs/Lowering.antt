@@ -1,6 +1,6 @@
 -- One call: refused, all is as it was; accepted, the lines of the instruction's program after the others, the flows that it sets, its edges,
 -- dispatch or bad.
-use Rattle.std.specs.Prelude.{ℕ, ◌+◌, Bool, cond, List, [], ◌∷◌, eqb, length}
+use Rattle.std.specs.Prelude.{ℕ, ◌≡◌, ◌+◌, Bool, cond, List, [], ◌∷◌, eqb, length, Result, Ok, Err}
 use Rattle.std.proofs.lemmas.List.Edits.{sets}
 use Rattle.btor2.specs.declared.NodeRef.{NodeRef}
 use Rattle.builder.specs.Prog.{Prog, Run}
@@ -23,7 +23,9 @@ use Rattle.state.specs.declared.room.Room.{Room}
 use Rattle.state.specs.declared.State.{State}
 use Rattle.lowering_refusals.specs.Refusal.{needs, refusal_given}
 use Rattle.state.specs.Room.{room_of}
-use Rattle.lowering.specs.declared.Lowered.{Lowered}
+use Rattle.refusals.specs.declared.Refusal.{Refusal}
+use Rattle.refusals.specs.Refusal.{refusal_number}
+use Rattle.lowering.specs.declared.Lent as L
 
 -- what the host lends
 pub record Lent : Type 0 where
@@ -35,6 +37,27 @@ pub record Lent : Type 0 where
 
 abbrev pub lent : List ℕ → List ℕ → List ℕ → List ℕ → List ℕ → Lent
 lent list names edges dispatches bads = record { list = list; names = names; edges = edges; dispatches = dispatches; bads = bads }
+
+abbrev pub lent_by : L.Lent ℕ → Lent
+lent_by l = lent l.list.now l.names.now l.edges.now l.dispatches.now l.bads.now
+
+-- the same lists are lent, whatever they hold
+pub record SameLent {Edge : Type 0} (l l' : L.Lent Edge) : Type 0 where
+  pub list : l'.list.ghost_name ≡ l.list.ghost_name
+  pub names : l'.names.ghost_name ≡ l.names.ghost_name
+  pub edges : l'.edges.ghost_name ≡ l.edges.ghost_name
+  pub dispatches : l'.dispatches.ghost_name ≡ l.dispatches.ghost_name
+  pub bads : l'.bads.ghost_name ≡ l.bads.ghost_name
+
+-- the refusal of a call, 0 where there is none, and the state after it
+pub record Lowered : Type 0 where
+  pub refusal : ℕ
+  pub state : State
+
+-- what a call says, over a state; refused, the state is as it was
+abbrev pub lowered_by : State → Result State Refusal → Lowered
+lowered_by st (Ok after) = record { refusal = 0; state = after }
+lowered_by st (Err r) = record { refusal = refusal_number r; state = st }
 
 -- what a call gives: the refusal, the state, and the lent lists as it leaves them
 pub record Answer : Type 0 where

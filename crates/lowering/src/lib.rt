@@ -5,9 +5,8 @@
 mod lines;
 
 use btor2::NodeRef;
-pub use lines::{lower_lines, name_for};
+pub use lines::{Lines, lower_lines, name_for};
 use riscv::Instruction;
-use state::State;
 
 // What a call asks: an instruction at an address, under a flag.
 #[derive(Clone, Copy)]
@@ -17,9 +16,12 @@ pub struct LowerCall {
     pub flag: NodeRef,
 }
 
-// What a call gives: its refusal, 0 where there is none, and the state after it.
-#[derive(Clone, Copy)]
-pub struct Lowered {
-    pub refusal: u64,
-    pub state: State,
+// What the host lends, from call to call: the list of lines, our area of names, the in-edges, as words or as records, the dispatches and the bads.
+#[derive(Drop)]
+pub struct Lent<'a, Edge = u64> {
+    pub list: &'a mut [u64],
+    pub names: &'a mut [u8],
+    pub edges: &'a mut [Edge],
+    pub dispatches: &'a mut [u64],
+    pub bads: &'a mut [u64],
 }

@@ -3,39 +3,47 @@ ghost use Rattle.std.specs.Prelude.{◌≡◌};
 ghost use Rattle.btor2_list.specs.Node.{no_name};
 ghost use Rattle.builder.specs.Prog.{ran};
 ghost use Rattle.builder.specs.Append.{at, run_for};
-ghost use Rattle.models.specs.Code.{modeled_of};
+ghost use Rattle.models.specs.Places as P;
+ghost use Rattle.models.specs.Code.{flows_of, outcome_of};
 ghost use Rattle.lowering.specs.Lines.{name_for, program_with};
 
 use btor2::Name;
-use builder::Tally;
-use models::Modeled;
+use builder::{Builder, Tally};
+use models::{Flows, Immediate, Outcome};
 use riscv::{Class, Instruction, Zeros};
 use riscv_rows::has_bad;
 use state::Reads;
+
+// What an instruction's lines give: the tally after them, the flows that they set, and the outcome.
+#[derive(Clone, Copy)]
+pub struct Lines {
+    pub tally: Tally,
+    pub flows: Flows,
+    pub outcome: Outcome,
+}
 
 // The lines of an instruction, each with its address; with the name of its bad line and with which of its fields are zero.
 pub fn lower_lines(
     list: &mut [u64],
     t: Tally,
     name: Name,
-    z: Zeros,
+    zeros: Zeros,
     e: Reads,
     i: Instruction,
     address: u64,
-) -> Modeled
-    ensures { ran (at list.new result.tally) (modeled_of result) ≡ run_for address list.old t (program_with name z e i address) }
+) -> Lines
+    ensures { ran (at list.new result.tally) (P.gives (flows_of result.flows) (outcome_of result.outcome)) ≡ run_for address list.old t (program_with name zeros e i address) }
 {
-    let operands = e.operands;
-    let flows = e.flows;
-    let register = e.register;
-    let memory = e.memory;
     let imm = riscv_rows::constant_of(i.kind, i.imm, address);
-    let m = translate::translate_lines(
-        list, t, operands, flows, register, memory, imm, name, i.kind, z,
-    );
-    let after = m.tally;
-    btor2_list::address_lines(list, t.lines, after.lines, address);
-    m
+    let mut b = Builder::new(list, t);
+    let m = translate::translate_lines(&mut b, e, Immediate { imm, zeros }, name, i.kind);
+    let tally = b.tally();
+    btor2_list::address_lines(list, t.lines, tally.lines, address);
+    Lines {
+        tally,
+        flows: m.flows,
+        outcome: m.outcome,
+    }
 }
 
 // The name of Jalr's bad line, which is put after `at` bytes of our area.

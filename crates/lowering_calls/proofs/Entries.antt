@@ -1,6 +1,6 @@
 -- The calls over words where the roles of the state in the words are tested, and a call over a state. Assumes nothing.
 use Prim.Native.Nat.{ℕ, ◌≤◌}
-use mathlib.Core.Path.{◌≡◌, refl, ap, ◌∙◌}
+use mathlib.Core.Path.{◌≡◌, refl, sym, ap, ◌∙◌}
 use mathlib.Core.Bool.{Bool, true, false, cond}
 use mathlib.Core.List.{List}
 use native.Mathlib.Omega.{arith}
@@ -15,7 +15,10 @@ use Rattle.lowering.specs.Lowering.{Lent, Answer, answer, lowering_given, loweri
 use Rattle.state.specs.Words.{state_words, state_in, state_out}
 use Rattle.lowering.specs.Words.{Given, given, given_by, lowering_words}
 use Rattle.lowering.specs.All.{GivenAll, lowering_all_words}
+use Rattle.refusals.specs.declared.Refusal.{Refusal}
+use Rattle.refusals.specs.Refusal.{refusal_number}
 use Rattle.lowering.proofs.Refused.{refused_kept}
+use Rattle.refusals.proofs.Numbered.{numbered}
 use Rattle.state.proofs.Words.{read_out, out_length}
 use Rattle.lowering.proofs.Words.{read_back}
 use Rattle.lowering_calls.specs.Known.{known_words, words_all}
@@ -51,3 +54,10 @@ module _ (l : Lent) (s : State) (i : Instruction) (address : ℕ) (flag : NodeRe
       let whole : given n l' ws ≡ given_by (state_out s) a = e ∙ by_words in
       let state : after ≡ a.lowered.state = read ∙ ap (λ (g : Given). state_in g.state) whole ∙ read_back (state_out s) a.lowered.state sized in
       rw (state, ap (λ (g : Given). g.refusal) whole, ap (λ (g : Given). g.lent) whole)
+
+  pub refused_over_state : (r : Refusal) (l' : Lent) (ws : List ℕ) → given (refusal_number r) l' ws ≡ lowering_words l (state_out s) i address flag → answer (record { refusal = refusal_number r; state = s }) l' ≡ a
+  refused_over_state r l' ws e =
+      let whole : given (refusal_number r) l' ws ≡ given_by (state_out s) a = e ∙ by_words in
+      let refused : refusal_number r ≡ a.lowered.refusal = ap (λ (g : Given). g.refusal) whole in
+      let kept : a.lowered.state ≡ s = refused_kept _ l s i address flag (λ z. numbered r (refused ∙ z)) in
+      rw (refused, ap (λ (g : Given). g.lent) whole) (ap (λ (x : State). answer (record { refusal = a.lowered.refusal; state = x }) a.lent) (sym kept))

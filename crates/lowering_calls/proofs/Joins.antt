@@ -46,7 +46,7 @@ unfolding state_in
 parted ws = refl
 
 -- over words: what was read of them, and what the call gave
-module _ (fits : Bool) (l : Lent) (ws : List ℕ) (i : Instruction) (address : ℕ) (flag : NodeRef) (t : Tally) (c : Counts) (e : Reads) (p : GivenApart) (enough : state_words ≤ length ws) (t-is : t ≡ (state_in ws).tally) (c-is : c ≡ (state_in ws).counts)
+module _ (fits : Bool) (l : Lent) (ws : List ℕ) (i : Instruction) (address : ℕ) (flag : NodeRef) {t : Tally} {c : Counts} {e : Reads} {p : GivenApart} (enough : state_words ≤ length ws) (t-is : t ≡ (state_in ws).tally) (c-is : c ≡ (state_in ws).counts)
     (e-is : e ≡ reads_in (roles_held ws) flag i) (gave : p ≡ call_apart fits l t c e i address flag) where
   held : roles_held ws ≡ roles_in ws
   held = rw (le-ltb (length ws) state_words enough)

@@ -1,5 +1,5 @@
 -- One call of many, and the words of what is left. Assumes nothing.
-use Prim.Native.Nat.{ℕ, ◌+◌, ◌-◌, ◌*◌, ◌/◌, ◌≤◌}
+use Prim.Native.Nat.{ℕ, ◌+◌, ◌-◌, ◌*◌, ◌/◌}
 use mathlib.Core.Path.{◌≡◌, subst}
 use mathlib.Core.Bool.{Bool, true, false}
 use mathlib.Core.List.{List, ◌∷◌}
@@ -20,9 +20,9 @@ unfolding words_all
 from_none fits l ws calls = let all : length calls / 7 - 0 ≡ length calls / 7 = omega arith in rw all
 
 -- none is left
-pub ends : (fits : Bool) (n k : ℕ) (l : Lent) (ws calls : List ℕ) → n ≤ k → given_all k 0 l ws ≡ words_on fits k l ws (calls_in (n - k) calls)
+pub ends : (fits : Bool) (n k : ℕ) (l : Lent) (ws calls : List ℕ) → k ≡ n → given_all n 0 l ws ≡ words_on fits k l ws (calls_in (n - k) calls)
 unfolding words_on
-ends fits n k l ws calls h = rw (records_none call_words call_in n k calls h)
+ends fits n k l ws calls e = rw (e, records_none call_words call_in n n calls (omega arith))
 
 module _ (fits : Bool) (l : Lent) (ws : List ℕ) (c : LowerCall) (g : Given) (is : g ≡ known_words fits l ws c.instruction c.address c.flag) (done : ℕ) (cs : List LowerCall) where
   -- what is made of an answer

@@ -1,5 +1,5 @@
 -- A call apart from the roles, for private functions: what it gives, by what is read of them.
-use Rattle.std.specs.Prelude.{ℕ, Bool, cond, List, eqb}
+use Rattle.std.specs.Prelude.{ℕ, Bool, cond, List, eqb, Result, Ok, Err}
 use Rattle.btor2.specs.declared.NodeRef.{NodeRef}
 use Rattle.builder.specs.declared.Tally.{Tally}
 use Rattle.builder.specs.Append.{Store, run_for}
@@ -21,6 +21,9 @@ use Rattle.lowering.specs.Lines.{program_from}
 use Rattle.state.specs.Words.{state_of}
 use Rattle.lowering.specs.Lowering.{Lent, lent, Answer, room_in, names_after, dispatches_after, bads_after, counts_after}
 use Rattle.lowering_calls.specs.declared.apart.Apart.{Apart}
+use Rattle.lowering_calls.specs.declared.apart.Before.{Before}
+use Rattle.refusals.specs.declared.Refusal.{Refusal}
+use Rattle.refusals.specs.Refusal.{refusal_number}
 
 -- what the call gives, with the lent lists
 pub record GivenApart : Type 0 where
@@ -30,16 +33,6 @@ pub record GivenApart : Type 0 where
   pub flows : P.Flows ℕ
   pub outcome : P.Outcome ℕ
   pub lent : Lent
-
-abbrev pub given_apart : Apart → Lent → GivenApart
-given_apart p l = record {
-  refusal = p.refusal;
-  tally = p.tally;
-  counts = p.counts;
-  flows = flows_of p.flows;
-  outcome = outcome_of p.outcome;
-  lent = l;
-}
 
 -- by the class of the instruction's kind and which of its fields are zero
 unfoldable pub accepted_with : Class → Zeros → Lent → Tally → Counts → Instruction → ℕ → Run Store (P.Modeled ℕ) → GivenApart
@@ -61,6 +54,18 @@ accepted_apart l t c i address r = accepted_with (class (kind_at i.kind)) (zeros
 
 abbrev pub refused_apart : ℕ → Lent → Tally → Counts → Reads → GivenApart
 refused_apart n l t c e = record { refusal = n; tally = t; counts = c; flows = flows_of e.flows; outcome = P.nothing; lent = l }
+
+-- refused, the tally, the counts and the flows are those that were read
+abbrev pub given_apart : Before → Result Apart Refusal → Lent → GivenApart
+given_apart b (Ok p) l = record {
+  refusal = 0;
+  tally = p.tally;
+  counts = p.counts;
+  flows = flows_of p.flows;
+  outcome = outcome_of p.outcome;
+  lent = l;
+}
+given_apart b (Err r) l = refused_apart (refusal_number r) l b.tally b.counts b.reads
 
 unfoldable pub call_apart : Bool → Lent → Tally → Counts → Reads → Instruction → ℕ → NodeRef → GivenApart
 call_apart fits l t c e i address flag =

@@ -4,195 +4,128 @@
 
 mod apart;
 
-ghost use Rattle.std.specs.Prelude.{◌≡◌, not, ◌+◌, ◌*◌, ◌≤◌, length, drop};
-ghost use Rattle.models.specs.Code.{flows_of, outcome_of};
+ghost use Rattle.std.specs.Prelude.{◌≡◌, ◌+◌, ◌*◌, ◌≤◌, length, drop};
+ghost use Rattle.refusals.specs.Refusal.{refused_with};
 ghost use Rattle.state.specs.RolesFit.{roles_fit};
-ghost use Rattle.lowering.specs.Lowering.{lent, answer, lowering};
-ghost use Rattle.state.specs.Words.{state_in, stored};
+ghost use Rattle.lowering.specs.Lowering.{lent_by, SameLent, answer, lowered_by, lowering};
+ghost use Rattle.state.specs.Words.{state_in};
 ghost use Rattle.lowering.specs.Words.{given, lowering_words};
-ghost use Rattle.lowering.specs.All.{call_words, call_in, given_all, lowering_all_words};
+ghost use Rattle.lowering.specs.All.{call_words, call_in, stopped_with, given_all, lowering_all_words};
 ghost use Rattle.lowering_calls.specs.Known.{known_words, words_all};
 
-use apart::{Apart, lower_apart};
+use apart::{Before, lower_apart};
 use btor2::NodeRef;
-use lowering::{LowerCall, Lowered};
+use lowering::{Lent, LowerCall};
+use refusals::Refusal;
 use riscv::Instruction;
-use state::{BAD_COUNT, STATE_WORDS, State};
+use state::{STATE_WORDS, State};
 
 // The words of a call: address, kind, rd, rs1, rs2, imm, flag.
 pub const CALL: usize = 7;
 
-// The flag of a call that has none: a place that no list reaches.
+// The flag of a call that has none: a place that no list reaches. It is no Option, since the C interface gives a flag as a word, and the
+// definition `lowering` speaks of its place.
 pub const NO_FLAG: NodeRef = NodeRef(0xffff_ffff_ffff_ffff);
 
-// How many calls were accepted, and the refusal of the next one, 0 where there is none.
+// How many calls were accepted, and the refusal of the next one, if it was refused.
 #[derive(Clone, Copy)]
 pub struct Stopped {
     pub done: usize,
-    pub refusal: u64,
+    pub refusal: Option<Refusal>,
 }
 
 // Lowers an instruction at an address under a flag. `state` says how much of each lent list is in use, the next identifier and the roles.
 // A refused call changes nothing.
-pub fn lower(
-    list: &mut [u64],
-    names: &mut [u8],
-    edges: &mut [u64],
-    dispatches: &mut [u64],
-    bads: &mut [u64],
-    state: State,
-    i: Instruction,
-    address: u64,
-    flag: NodeRef,
-) -> Lowered
-    ensures { answer result (lent list.new names.new edges.new dispatches.new bads.new) ≡ lowering (lent list.old names.old edges.old dispatches.old bads.old) state i address flag }
+pub fn lower(lent: &mut Lent, state: State, call: LowerCall) -> Result<State, Refusal>
+    ensures is { answer (lowered_by state result) (lent_by lent.new) ≡ lowering (lent_by lent.old) state call.instruction call.address call.flag }
+    ensures same { SameLent lent.old lent.new }
 {
-    let t = state.tally;
-    let c = state.counts;
-    let places = state.roles;
-    let mut words = state::words_of(t, c, places);
-    let refusal = lower_words(
-        list, names, edges, dispatches, bads, &mut words, i, address, flag,
-    );
-    let after = state::state_in(&words);
-    Lowered {
-        refusal,
-        state: after,
-    }
+    let mut words = state::words_of(state.tally, state.counts, state.roles);
+    lower_words(lent, &mut words, call)?;
+    Ok(state::state_in(&words))
 }
 
-// The same over the state's words, which the host keeps. Gives the number of the refusal, or 0; 9 where there are fewer words than a state has.
-pub fn lower_words(
-    list: &mut [u64],
-    names: &mut [u8],
-    edges: &mut [u64],
-    dispatches: &mut [u64],
-    bads: &mut [u64],
-    state: &mut [u64],
-    i: Instruction,
-    address: u64,
-    flag: NodeRef,
-) -> u64
-    ensures { given result (lent list.new names.new edges.new dispatches.new bads.new) state.new ≡ lowering_words (lent list.old names.old edges.old dispatches.old bads.old) state.old i address flag }
+// The same over the state's words, which the host keeps. Refused with 9 where there are fewer words than a state has.
+pub fn lower_words(lent: &mut Lent, state: &mut [u64], call: LowerCall) -> Result<(), Refusal>
+    ensures is { given (refused_with result) (lent_by lent.new) state.new ≡ lowering_words (lent_by lent.old) state.old call.instruction call.address call.flag }
+    ensures same { SameLent lent.old lent.new }
 {
-    let fits = roles_fit(list, state);
-    lower_known(
-        list, names, edges, dispatches, bads, state, i, address, flag, fits,
-    )
+    let fits = roles_fit(lent, state);
+    lower_known(lent, state, call, fits)
 }
 
 // Lowers call after call, seven words each, and stops at the first that is refused: what those before it did stays.
-pub fn lower_all(
-    list: &mut [u64],
-    names: &mut [u8],
-    edges: &mut [u64],
-    dispatches: &mut [u64],
-    bads: &mut [u64],
-    state: &mut [u64],
-    calls: &[u64],
-) -> Stopped
-    ensures { given_all result.done result.refusal (lent list.new names.new edges.new dispatches.new bads.new) state.new ≡ lowering_all_words (lent list.old names.old edges.old dispatches.old bads.old) state.old calls.now }
+pub fn lower_all(lent: &mut Lent, state: &mut [u64], calls: &[u64]) -> Stopped
+    ensures is { given_all result.done (stopped_with result.refusal) (lent_by lent.new) state.new ≡ lowering_all_words (lent_by lent.old) state.old calls.now }
+    ensures same { SameLent lent.old lent.new }
 {
     if state.len() < STATE_WORDS {
         return Stopped {
             done: 0,
-            refusal: BAD_COUNT,
+            refusal: Some(Refusal::BadCount),
         };
     }
-    let fits = roles_fit(list, state);
-    lower_rest(list, names, edges, dispatches, bads, state, calls, fits)
+    let fits = roles_fit(lent, state);
+    lower_rest(lent, state, calls, fits)
 }
 
 // Whether the roles of the state in these words fit.
-fn roles_fit(list: &[u64], words: &[u64]) -> bool
-    ensures { result ≡ roles_fit list.now (state_in words.now).tally.lines 0 (state_in words.now).roles }
+fn roles_fit(lent: &Lent, words: &[u64]) -> bool
+    ensures { result ≡ roles_fit lent.now.list.now (state_in words.now).tally.lines 0 (state_in words.now).roles }
 {
     let state = state::state_in(words);
-    let t = state.tally;
-    let places = state.roles;
-    !state::roles_out(list, t.lines, places)
+    !state::roles_out(lent.list, state.tally.lines, state.roles)
 }
 
 // A call over the state's words where it is known whether the roles of the state in them fit.
 fn lower_known(
-    list: &mut [u64],
-    names: &mut [u8],
-    edges: &mut [u64],
-    dispatches: &mut [u64],
-    bads: &mut [u64],
+    lent: &mut Lent,
     state: &mut [u64],
-    i: Instruction,
-    address: u64,
-    flag: NodeRef,
+    call: LowerCall,
     fits: bool,
-) -> u64
-    ensures { given result (lent list.new names.new edges.new dispatches.new bads.new) state.new ≡ known_words fits (lent list.old names.old edges.old dispatches.old bads.old) state.old i address flag }
+) -> Result<(), Refusal>
+    ensures is { given (refused_with result) (lent_by lent.new) state.new ≡ known_words fits (lent_by lent.old) state.old call.instruction call.address call.flag }
+    ensures same { SameLent lent.old lent.new }
 {
     if state.len() < STATE_WORDS {
-        return BAD_COUNT;
+        return Err(Refusal::BadCount);
     }
-    let t = state::tally_in(state);
-    let c = state::counts_in(state);
-    let e = state::reads_in(state, flag, i);
-    let p = lower_apart(
-        list, names, edges, dispatches, bads, t, c, e, i, address, flag, fits,
+    let before = Before {
+        tally: state::tally_in(state),
+        counts: state::counts_in(state),
+        reads: state::reads_in(state, call.flag, call.instruction),
+    };
+    let apart = lower_apart(lent, before, call, fits)?;
+    state::put_state(
+        state,
+        apart.tally,
+        apart.counts,
+        apart.flows,
+        call.instruction.rd,
+        apart.outcome,
     );
-    let refusal = p.refusal;
-    if refusal != 0 {
-        return refusal;
-    }
-    put_apart(state, i.rd, p);
-    0
-}
-
-// Puts what an accepted call gives into a state's words.
-fn put_apart(words: &mut [u64], rd: u64, p: Apart)
-    ensures { words.new ≡ stored words.old p.tally p.counts (flows_of p.flows) rd (outcome_of p.outcome) }
-{
-    let t = p.tally;
-    let c = p.counts;
-    let flows = p.flows;
-    let outcome = p.outcome;
-    state::put_state(words, t, c, flows, rd, outcome);
+    Ok(())
 }
 
 // All calls where it is known whether the roles fit at the start.
-fn lower_rest(
-    list: &mut [u64],
-    names: &mut [u8],
-    edges: &mut [u64],
-    dispatches: &mut [u64],
-    bads: &mut [u64],
-    state: &mut [u64],
-    calls: &[u64],
-    fits: bool,
-) -> Stopped
-    ensures { given_all result.done result.refusal (lent list.new names.new edges.new dispatches.new bads.new) state.new ≡ words_all fits (lent list.old names.old edges.old dispatches.old bads.old) state.old calls.now }
+fn lower_rest(lent: &mut Lent, state: &mut [u64], calls: &[u64], fits: bool) -> Stopped
+    ensures is { given_all result.done (stopped_with result.refusal) (lent_by lent.new) state.new ≡ words_all fits (lent_by lent.old) state.old calls.now }
+    ensures same { SameLent lent.old lent.new }
 {
     let count = calls.len() / CALL;
-    let mut done = 0;
-    while done < count {
+    for done in 0..count {
         let call = call_at(calls, done);
-        let i = call.instruction;
-        let flag = call.flag;
-        let refusal = lower_known(
-            list,
-            names,
-            edges,
-            dispatches,
-            bads,
-            state,
-            i,
-            call.address,
-            flag,
-            fits,
-        );
-        if refusal != 0 {
-            return Stopped { done, refusal };
+        if let Err(refusal) = lower_known(lent, state, call, fits) {
+            return Stopped {
+                done,
+                refusal: Some(refusal),
+            };
         }
-        done += 1;
     }
-    Stopped { done, refusal: 0 }
+    Stopped {
+        done: count,
+        refusal: None,
+    }
 }
 
 // The call after `done` others.

@@ -1,13 +1,13 @@
 -- The core over words of its own answers as over the records' words. Assumes nothing.
 use Prim.Native.Nat.{ℕ, zero, suc, ◌+◌, ◌-◌, ◌≤◌, ◌<◌, ◌^◌}
-use mathlib.Core.Path.{◌≡◌, refl, sym, subst, ◌∙◌}
+use mathlib.Core.Path.{◌≡◌, refl, sym, ◌∙◌}
 use mathlib.Core.Bool.{Bool, true, false, cond}
 use mathlib.Core.List.{List}
 use native.Mathlib.Omega.{arith}
 use native.Mathlib.Nat.{add-zero}
 use borrow.Author.Tests.{lt-ltb, le-ltb, ltb-true, ltb-false, eqb-true}
 use lib.Dec.{eqb, ltb}
-use lib.ListN.{length, replicate, set, length-set, length-replicate}
+use lib.ListN.{length, replicate, set, length-set}
 use Rattle.btor2.specs.declared.NodeRef.{NodeRef}
 use Rattle.builder.specs.Append.{Store, run_for}
 use Rattle.builder.specs.Prog.{Run}
@@ -24,11 +24,13 @@ use Rattle.state.specs.declared.room.Room.{Room}
 use Rattle.state.specs.declared.State.{State}
 use Rattle.lowering_refusals.specs.Refusal.{needs_of, needs, room_out, refusal_given, refusal_of}
 use Rattle.state.specs.Room.{room_of}
+use Rattle.lowering.specs.declared.Lent as L
+use Rattle.lowering.specs.declared.LowerCall.{LowerCall}
 use Rattle.lowering.specs.Lowering.{Lent, lent, Answer, answer, program_of, settled, counts_after, room_in, refused, lowering_given, lowering}
 use Rattle.lowering_refusals.proofs.Accepted as A
 use Rattle.edges.specs.declared.InEdge.{InEdge}
 use Rattle.edges.specs.InEdges.{edge_words}
-use Rattle.lowering_entry.specs.Parts.{edge_at, appended, used_of, with_edges, taken_apart, EdgesCounted, Rejoined}
+use Rattle.lowering_entry.specs.Parts.{recorded_by, edge_at, appended, used_of, with_edges, Fits}
 use Rattle.edges.proofs.InEdges.{records, put_words}
 
 -- the core's own words: two records
@@ -103,6 +105,28 @@ at_most Ecall = omega arith
 
 -- ---- the same answer
 
+-- what the core gave, its edges out of their words and appended after count others, of which u words' records were counted as used
+abbrev pub rejoined : List InEdge → ℕ → ℕ → Answer → Answer
+rejoined es count u a =
+    let added = a.lowered.state.counts.edges - u in
+    record {
+      lowered = record { refusal = a.lowered.refusal; state = with_edges a.lowered.state (count + added) };
+      lent = lent a.lent.list a.lent.names (edge_words (appended es count added (edge_at a.lent.edges u) (edge_at a.lent.edges (u + 1)))) a.lent.dispatches a.lent.bads;
+    }
+
+-- the core gave a: it counts no edge away, its edges fit after the others, and with them appended the rest is right
+pub record Whole (es : List InEdge) (st : State) (u : ℕ) (a whole : Answer) : Type 0 where
+  pub more : u ≤ a.lowered.state.counts.edges
+  pub fits : Fits st.counts.edges (a.lowered.state.counts.edges - u) u (length es)
+  pub right : rejoined es st.counts.edges u a ≡ whole
+
+-- refused, no edge is appended
+pub same_refused : (es : List InEdge) (st : State) (u n : ℕ) (l : Lent) {whole : Answer} → Whole es st u (answer (record { refusal = n; state = with_edges st u }) l) whole
+    → answer (record { refusal = n; state = st }) (lent l.list l.names (edge_words es) l.dispatches l.bads) ≡ whole
+same_refused es st u n l w =
+    let none : u - u ≡ 0 = omega arith in
+    rw (none, add-zero st.counts.edges) at w.right
+
 module _ (l n d b : List ℕ) (es : List InEdge) (st : State) (i : Instruction) (address : ℕ) (flag : NodeRef) (u : ℕ) (test : (m : ℕ) → m ≤ 2 → ltb 2 (u + m) ≡ ltb (length es) (st.counts.edges + m)) where
   abbrev own : Lent
   own = lent l n zeros d b
@@ -130,53 +154,47 @@ module _ (l n d b : List ℕ) (es : List InEdge) (st : State) (i : Instruction) 
       let eight : ltb 2 (u + needed.edges) ≡ ltb (length es) (st.counts.edges + needed.edges) = test needed.edges (rw edges_are (at_most c)) in
       rw (records es, ← nine, ← eight)
 
-  -- what the core gave as a counts no edge away, and taken apart it is the answer whole
-  abbrev Whole : Answer → Answer → Type 0
-  Whole a whole =
-      let r = taken_apart a.lowered st.counts.edges u a.lent.edges in
-      (u ≤ a.lowered.state.counts.edges) × Rejoined es st.counts.edges r (λ after. answer r.lowered (lent a.lent.list a.lent.names (edge_words after) a.lent.dispatches a.lent.bads) ≡ whole)
-
   module _ (run : Run Store (P.Modeled ℕ)) where
-    refused_whole : (m : ℕ) → Whole (refused m own (with_edges st u)) (refused m theirs st)
+    refused_whole : (m : ℕ) → Whole es st u (refused m own (with_edges st u)) (refused m theirs st)
     refused_whole m =
         let none : u - u ≡ 0 = omega arith in
-        (omega arith, record { fits = λ some. absurd (omega (arith, none)); right = rw (none, add-zero st.counts.edges) })
+        record {
+          more = omega arith;
+          fits = record { there = λ some. absurd (omega (arith, none)); own = λ some. absurd (omega (arith, none)) };
+          right = rw (none, add-zero st.counts.edges);
+        }
 
-    settled_whole : number ≡ 0 → Whole (settled own (with_edges st u) i address run) (settled theirs st i address run)
+    settled_whole : number ≡ 0 → Whole es st u (settled own (with_edges st u) i address run) (settled theirs st i address run)
     unfolding settled counts_after number room_of
     settled_whole accepted =
         let small : u + needed.edges ≤ 2 = (A.roomy _ l (room_in own) (with_edges st u).tally (with_edges st u).counts i address flag.0 accepted).edges in
         let small' : u + edge_count c ≤ 2 = rw edges_are at small in
         let fits : st.counts.edges + edge_count c ≤ length es = ltb-false _ _ (sym (test (edge_count c) (at_most c)) ∙ le-ltb 2 (u + edge_count c) small') in
-        let added : (u + needed.edges) - u ≡ edge_count c = omega (arith, edges_are) in (
-          omega arith,
-          record {
-            fits = λ some. rw added fits;
-            right = rw (added, edges_are, same_edges es st.counts.edges u c address i.imm run.value.outcome small' fits);
-          },
-        )
+        let added : (u + needed.edges) - u ≡ edge_count c = omega (arith, edges_are) in
+        record {
+          more = omega arith;
+          fits = record { there = λ some. rw added fits; own = λ some. rw added small' };
+          right = rw (added, edges_are, same_edges es st.counts.edges u c address i.imm run.value.outcome small' fits);
+        }
 
     either : (t : Bool) → eqb number 0 ≡ t
-        → Whole (cond t (settled own (with_edges st u) i address run) (refused number own (with_edges st u))) (cond t (settled theirs st i address run) (refused number theirs st))
+        → Whole es st u (cond t (settled own (with_edges st u) i address run) (refused number own (with_edges st u))) (cond t (settled theirs st i address run) (refused number theirs st))
     either true e = settled_whole (eqb-true number 0 e)
     either false e = refused_whole number
 
-  whole : Whole (lowering own (with_edges st u) i address flag) (lowering theirs st i address flag)
+  whole : Whole es st u (lowering own (with_edges st u) i address flag) (lowering theirs st i address flag)
   unfolding lowering_given program_of number
   whole = rw same_refusal (either (run_for address l st.tally (program_of st i address flag)) (eqb number 0) refl)
 
-  pub same_answer : (a : Answer) → a ≡ lowering own (with_edges st u) i address flag → Whole a (lowering theirs st i address flag)
-  same_answer a e = subst (λ (x : Answer). Whole x (lowering theirs st i address flag)) (sym e) whole
+-- what the core gave over its own words, under a state s that counts u of their two records as used, is what the call gives over the records
+pub same_answer : (held : L.Lent InEdge) (st : State) (call : LowerCall) (u : ℕ) (s : State) (a : Answer) → u ≡ used_of st.counts.edges (length held.edges.now) → s ≡ with_edges st u
+    → a ≡ lowering (lent held.list.now held.names.now zeros held.dispatches.now held.bads.now) s call.instruction call.address call.flag
+    → Whole held.edges.now st u a (lowering (recorded_by held) st call.instruction call.address call.flag)
+same_answer held st call u s a used counted gave =
+    rw (gave, counted)
+    (whole held.list.now held.names.now held.dispatches.now held.bads.now held.edges.now st call.instruction call.address call.flag u (λ m h. rw used (same_test st.counts.edges (length held.edges.now) m h)))
 
--- the sums fit: for this a list of any records of the same length will do
-pub counted : (l n d b : List ℕ) (st : State) (i : Instruction) (address : ℕ) (flag : NodeRef) (u room : ℕ) → u ≡ used_of st.counts.edges room → st.counts.edges < 2 ^ 64 → room < 2 ^ 64
-    → (a : Answer) → a ≡ lowering (lent l n zeros d b) (with_edges st u) i address flag → EdgesCounted a.lowered st.counts.edges u
-counted l n d b st i address flag u room is count_fits room_fits a e =
-    let es : List InEdge = replicate room (edge_of 0 0 0 0) in
-    let long : length es ≡ room = length-replicate room (edge_of 0 0 0 0) in
-    let w = same_answer l n d b es st i address flag u (λ m h. rw (is, long) (same_test st.counts.edges room m h)) a e in
-    record { few = rw is (few st.counts.edges room); more = w.0; fits = sums (a.lowered.state.counts.edges - u) (λ some. omega (arith, w.1.fits some, long)) }
-  where
-    sums : (m : ℕ) → (0 < m → st.counts.edges + m ≤ room) → st.counts.edges + m < 2 ^ 64
-    sums zero h = omega arith
-    sums (suc m) h = omega (arith, h (omega arith))
+-- the count after the call fits
+pub sum_fits : (count added used room : ℕ) → Fits count added used room → count < 2 ^ 64 → room < 2 ^ 64 → count + added < 2 ^ 64
+sum_fits count zero used room h few most = omega arith
+sum_fits count (suc n) used room h few most = omega (arith, h.there (omega arith))

@@ -1,9 +1,14 @@
 -- What the private functions give, of which `lower` is made, and the bounds that one asks for.
-use Rattle.std.specs.Prelude.{ℕ, ◌+◌, ◌-◌, ◌*◌, ◌^◌, ◌≤◌, ◌<◌, cond, List, eqb, ltb, length, get_or, set}
+use Rattle.std.specs.Prelude.{ℕ, ◌+◌, ◌-◌, ◌*◌, ◌≤◌, ◌<◌, cond, List, eqb, ltb, get_or, set}
 use Rattle.state.specs.declared.State.{State}
-use Rattle.lowering.specs.declared.Lowered.{Lowered}
-use Rattle.lowering_entry.specs.declared.LoweredWithEdges.{LoweredWithEdges}
+use Rattle.lowering.specs.Lowering.{Lent, lent}
+use Rattle.lowering.specs.declared.Lent as L
 use Rattle.edges.specs.declared.InEdge.{InEdge}
+use Rattle.edges.specs.InEdges.{edge_words}
+
+-- what the host lends, its in-edges as records
+abbrev pub recorded_by : L.Lent InEdge → Lent
+recorded_by l = lent l.list.now l.names.now (edge_words l.edges.now) l.dispatches.now l.bads.now
 
 -- the records with the first n of a and b from count on
 abbrev pub appended : List InEdge → ℕ → ℕ → InEdge → InEdge → List InEdge
@@ -26,24 +31,7 @@ with_edges st n =
       roles = st.roles;
     }
 
--- what the core gave, with the count of edges after count others, and the edges out of the words
-abbrev pub taken_apart : Lowered → ℕ → ℕ → List ℕ → LoweredWithEdges
-taken_apart r count used ws =
-    let added = r.state.counts.edges - used in
-    record {
-      lowered = record { refusal = r.refusal; state = with_edges r.state (count + added) };
-      added = added;
-      first = edge_at ws used;
-      second = edge_at ws (used + 1);
-    }
-
--- the sums of `taken_apart` fit
-pub record EdgesCounted (r : Lowered) (count used : ℕ) : Type 0 where
-  pub few : used ≤ 3
-  pub more : used ≤ r.state.counts.edges
-  pub fits : count + (r.state.counts.edges - used) < 2 ^ 64
-
--- the edges that r adds fit after count others, and with them appended the rest is right
-pub record Rejoined (es : List InEdge) (count : ℕ) (r : LoweredWithEdges) (Right : List InEdge → Type 0) : Type 0 where
-  pub fits : 0 < r.added → count + r.added ≤ length es
-  pub right : Right (appended es count r.added r.first r.second)
+-- edges that are added after count others, of which there is room for so many, stand in two records after those that are used there
+pub record Fits (count added used room : ℕ) : Type 0 where
+  pub there : 0 < added → count + added ≤ room
+  pub own : 0 < added → used + added ≤ 2

@@ -14,7 +14,7 @@ use Rattle.btor2_list.specs.NameBytes.{our_area}
 use Rattle.riscv.specs.declared.Zeros.{Zeros}
 use Rattle.riscv.specs.declared.Class.{Class}
 use Rattle.riscv.specs.Class.{line_count, has_bad}
-use Rattle.riscv.specs.Kind.{Kind}
+use Rattle.riscv.specs.declared.Kind.{Kind}
 use Rattle.riscv.proofs.EachKind.{every_case, by_case}
 use Rattle.lowering_laws.specs.Lines.{taking}
 use Rattle.lowering_laws.proofs.EachKind.{reading}

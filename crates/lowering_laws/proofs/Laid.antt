@@ -1,5 +1,6 @@
 -- A program that has room puts its lines after those that stand, one after the other, and changes nothing else. One induction, for every
 -- program. Assumes nothing.
+use Rattle.std.specs.Prelude.{Option}
 use Prim.Native.Nat.{ℕ, suc, ◌+◌, ◌^◌, ◌≤◌, ◌<◌}
 use mathlib.Core.Path.{◌≡◌, refl, sym, ◌∙◌, ap, subst}
 use mathlib.Core.Bool.{Bool, true, false, cond, ◌&&◌, true≢false}
@@ -9,7 +10,6 @@ use native.Mathlib.Nat.{mod-eq_of_lt}
 use borrow.Author.Tests.{lt-ltb}
 use lib.ListN.{length, get_or}
 use Rattle.btor2.specs.Op.{Op, has_init, identifiers}
-use Rattle.btor2_list.specs.declared.MaybeAddress.{MaybeAddress}
 use Rattle.btor2_list.specs.Record.{holds, put_at, capacity, words_for}
 use Rattle.btor2_list.specs.Node.{Node, node, line_of}
 use Rattle.btor2_list.specs.View.{view}
@@ -40,7 +40,7 @@ taking_most [] = omega arith
 taking_most (o ∷ os) = omega (arith, at_most_two (has_init o), taking_most os)
 
 -- what a run of the program p from ws and t has done, m being how many lines p has from the k-th on after n others, each with the address or none
-pub record Laid {X : Type 0} (w : MaybeAddress) (n k m : ℕ) (ws : List ℕ) (t : Tally) (p : Prog ℕ X) (r : Run Store X) : Type 0 where
+pub record Laid {X : Type 0} (w : Option ℕ) (n k m : ℕ) (ws : List ℕ) (t : Tally) (p : Prog ℕ X) (r : Run Store X) : Type 0 where
   pub value : r.value ≡ result_of (place_after n) k p
   pub nodes : view r.state.words r.state.tally.lines ≡ view ws t.lines ++ numbered w t.nid (lines_of (place_after n) k p)
   pub lines : r.state.tally.lines ≡ t.lines + m
@@ -52,7 +52,7 @@ pub record Laid {X : Type 0} (w : MaybeAddress) (n k m : ℕ) (ws : List ℕ) (t
 abbrev next : Tally → Op ℕ → Tally
 next t o = record { lines = t.lines + 1; nid = t.nid + identifiers o }
 
-abbrev put : MaybeAddress → List ℕ → Tally → Op ℕ → List ℕ
+abbrev put : Option ℕ → List ℕ → Tally → Op ℕ → List ℕ
 put w ws t o = put_at ws t.lines (line_of w t.nid o)
 
 and_both : (a b : Bool) → (a && b) ≡ true → (a ≡ true) × (b ≡ true)
@@ -62,17 +62,17 @@ and_both false b e = absurd (true≢false (sym e))
 there : (ws : List ℕ) (t : Tally) (m d : ℕ) → RoomForLines ws t (suc m) d → holds ws t.lines ≡ true
 there ws t m d r = lt-ltb t.lines (capacity (length ws)) (omega (arith, r.lines))
 
-append_room : (w : MaybeAddress) (ws : List ℕ) (t : Tally) (o : Op ℕ) (m d : ℕ) → RoomForLines ws t (suc m) (identifiers o + d) → append_for w (at ws t) o ≡ ran (at (put w ws t o) (next t o)) t.lines
+append_room : (w : Option ℕ) (ws : List ℕ) (t : Tally) (o : Op ℕ) (m d : ℕ) → RoomForLines ws t (suc m) (identifiers o + d) → append_for w (at ws t) o ≡ ran (at (put w ws t o) (next t o)) t.lines
 unfolding append_line
 append_room w ws t o m d r = rw (there ws t m _ r, ap (λ (x : Node). identifiers x.op) (node_back w t.nid o), mod-eq_of_lt {n = t.nid + identifiers o} {m = 2 ^ 64} (omega (arith, r.nids)))
 
-room_next : (w : MaybeAddress) (ws : List ℕ) (t : Tally) (o : Op ℕ) (m d : ℕ) → RoomForLines ws t (suc m) (identifiers o + d) → RoomForLines (put w ws t o) (next t o) m d
+room_next : (w : Option ℕ) (ws : List ℕ) (t : Tally) (o : Op ℕ) (m d : ℕ) → RoomForLines ws t (suc m) (identifiers o + d) → RoomForLines (put w ws t o) (next t o) m d
 room_next w ws t o m d r = record {
   lines = rw (put_length ws t.lines (line_of w t.nid o)) (omega (arith, r.lines));
   nids = omega (arith, r.nids);
 }
 
-pub laid : {X : Type 0} (w : MaybeAddress) (p : Prog ℕ X) (n k : ℕ) (ws : List ℕ) (t : Tally) → t.lines ≡ n + k → RoomForLines ws t (length (lines_of (place_after n) k p)) (taking (lines_of (place_after n) k p)) → fitting (lines_of (place_after n) k p) ≡ true
+pub laid : {X : Type 0} (w : Option ℕ) (p : Prog ℕ X) (n k : ℕ) (ws : List ℕ) (t : Tally) → t.lines ≡ n + k → RoomForLines ws t (length (lines_of (place_after n) k p)) (taking (lines_of (place_after n) k p)) → fitting (lines_of (place_after n) k p) ≡ true
     → Laid w n k (length (lines_of (place_after n) k p)) ws t p (exec (append_for w) (at ws t) p)
 unfolding lines_of result_of numbered taking
 laid w (done x) n k ws t e r fit = record {

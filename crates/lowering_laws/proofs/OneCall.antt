@@ -1,5 +1,6 @@
 -- One call: refused, all stays; accepted, the instruction's lines stand after the others and all else stays. Assumes nothing.
-use Prim.Native.Nat.{ℕ, ◌+◌, ◌^◌, ◌≤◌}
+use Rattle.std.specs.Prelude.{Some}
+use Prim.Native.Nat.{ℕ, ◌+◌, ◌≤◌}
 use mathlib.Core.Path.{◌≡◌, refl, sym, ap, subst, ◌∙◌}
 use mathlib.Core.Bool.{true}
 use native.Mathlib.Omega.{arith}
@@ -8,7 +9,6 @@ use borrow.Author.Tests.{ne_eqb}
 use lib.Dec.{ltb}
 use lib.ListN.{length}
 use Rattle.btor2.specs.declared.NodeRef.{NodeRef}
-use Rattle.btor2_list.specs.declared.MaybeAddress.TheVariants.{Address}
 use Rattle.builder.specs.Append.{run_for}
 use Rattle.riscv.specs.Class.{class}
 use Rattle.riscv.proofs.Most.{at_most}
@@ -69,10 +69,10 @@ module _ (l : Lent) (st : State) (i : Instruction) (address : ℕ) (flag : NodeR
     abbrev after_them : ℕ → ℕ
     after_them = place_after st.tally.lines
 
-    pub run : Laid (Address address) st.tally.lines 0 (growth i) l.list st.tally (program_of st i address flag) (run_for address l.list st.tally (program_of st i address flag))
+    pub run : Laid (Some address) st.tally.lines 0 (growth i) l.list st.tally (program_of st i address flag) (run_for address l.list st.tally (program_of st i address flag))
     run =
-        subst (λ m. Laid (Address address) st.tally.lines 0 m l.list st.tally (program_of st i address flag) (run_for address l.list st.tally (program_of st i address flag))) (grown after_them)
-        (laid (Address address) (program_of st i address flag) st.tally.lines 0 l.list st.tally (sym (add-zero _)) (rw (grown after_them, taken after_them) room) (fit after_them))
+        subst (λ m. Laid (Some address) st.tally.lines 0 m l.list st.tally (program_of st i address flag) (run_for address l.list st.tally (program_of st i address flag))) (grown after_them)
+        (laid (Some address) (program_of st i address flag) st.tally.lines 0 l.list st.tally (sym (add-zero _)) (rw (grown after_them, taken after_them) room) (fit after_them))
 
     pub when_accepted : Accepted l st i address flag (lowering l st i address flag)
     unfolding lowering_given settled needs_of

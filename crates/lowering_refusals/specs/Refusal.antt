@@ -10,7 +10,8 @@ use Rattle.riscv.specs.Class.{class, line_count, needs_flag, has_bad, has_dispat
 use Rattle.riscv.specs.declared.Instruction.{Instruction}
 use Rattle.riscv.specs.declared.Zeros.{Zeros}
 use Rattle.riscv.specs.Zeros.{zeros_of}
-use Rattle.riscv.specs.Kind.{Kind, kind_at}
+use Rattle.riscv.specs.declared.Kind.{Kind}
+use Rattle.riscv.specs.Kind.{kind_at}
 use Rattle.riscv.specs.Refusal.{refusal, first}
 use Rattle.state.specs.RolesFit.{value_sort, roles_fit}
 use Rattle.text.specs.BadName.{bad_name}

@@ -1,5 +1,6 @@
 -- A template that is placed after a list whose lines its roles are: its lines meet the sort rule, and have the values that it has by
 -- itself. Assumes nothing.
+use Rattle.std.specs.Prelude.{Option, Some, None}
 use Prim.Native.Nat.{ℕ, ◌<◌}
 use native.Mathlib.Decide.{dec_lt}
 use native.Mathlib.Omega.{arith}
@@ -9,8 +10,6 @@ use mathlib.Core.List.{List, [], ◌∷◌, ◌++◌}
 use lib.Dec.{T}
 use lib.ListN.{length, get_or, get_or-eq_default}
 use Rattle.btor2.specs.declared.NodeType.{NodeType}
-use Rattle.btor2.specs.declared.MaybeSort.{MaybeSort}
-use Rattle.btor2.specs.declared.MaybeSort.TheVariants.{Sort, NoSort}
 use Rattle.btor2.specs.Op.{Op, unknown, carried}
 use Rattle.btor2.specs.SortRule.{Judged, has_sort, is, judge, no_line, judged, all_right, meets_sort_rule}
 use Rattle.btor2.proofs.LineIs.{line_is}
@@ -28,9 +27,9 @@ pub inside : (s : NodeType) (xs : List (Op ℕ)) (p : ℕ) → T (line_is s xs p
 unfolding line_is carried
 inside s xs p h = elim (dec_lt p (length xs)) [ yes l ↦ l | no l ↦ absurd (subst (λ o. T (has_sort s (carried o))) (get_or-eq_default xs unknown {n = p} (omega arith)) h) ]
 
-has_is : (s : NodeType) (m : MaybeSort) → T (has_sort s m) → m ≡ Sort s
-has_is s (Sort t) h = ap Sort (sym (same_sort_lem s t h))
-has_is s NoSort h = absurd h
+has_is : (s : NodeType) (m : Option NodeType) → T (has_sort s m) → m ≡ Some s
+has_is s (Some t) h = ap Some (sym (same_sort_lem s t h))
+has_is s None h = absurd h
 
 right-append : (is js : List Judged) → T (all_right is) → T (all_right js) → T (all_right (is ++ js))
 unfolding all_right

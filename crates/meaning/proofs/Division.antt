@@ -15,7 +15,9 @@ use Rattle.bitvec.proofs.Divide.{sdiv_zero_neg, sdiv_zero_pos}
 use Rattle.bitvec.proofs.Word as Word
 use Rattle.btor2.specs.declared.Name.{Name}
 use Rattle.btor2.specs.Value.{Value, number, Env}
-use Rattle.riscv.specs.Kind.{Kind, Div, Divu, Divw, one_of}
+use Rattle.riscv.specs.declared.Kind.{Kind}
+use Rattle.riscv.specs.declared.Kind.TheVariants.{Div, Divu, Divw}
+use Rattle.riscv.specs.Kind.{one_of}
 use Rattle.riscv.specs.declared.Zeros.{Zeros}
 use Rattle.riscv.specs.Manual.{sets_rd, manual}
 use Rattle.lowering_laws.proofs.Template.{Role, rs1, rs2, division_flow, role, template}

@@ -1,10 +1,10 @@
 -- The sorts of what an instruction's lines refer to, and what is asked of a template: two computed tests. Assumes nothing.
+use Rattle.std.specs.Prelude.{Some}
 use Prim.Native.Nat.{ℕ}
 use mathlib.Core.Bool.{Bool, true, false, ◌&&◌, ◌||◌}
 use mathlib.Core.List.{List, []}
 use Rattle.btor2.specs.declared.NodeType.{NodeType}
 use Rattle.btor2.specs.declared.NodeType.TheVariants.{Bit, Word, Memory}
-use Rattle.btor2.specs.declared.MaybeSort.TheVariants.{Sort}
 use Rattle.btor2.specs.Op.{Op, map_op, carried}
 use Rattle.btor2.specs.SortRule.{Judged, is, rule, is_state_op, judge, no_line, all_right}
 use Rattle.models.specs.Places.{Flows, Outcome, nothing, register, memory, branch}
@@ -43,7 +43,7 @@ quiet (branch x y) = true
 -- after n lines; a role may be a State or not, and what its own line is does not matter
 module _ (n : ℕ) (st rt : Role → Bool) where
   abbrev pub known : Role → Judged
-  known r = record { mark = record { sort = Sort (sort_of r); is_state = st r }; right = rt r }
+  known r = record { mark = record { sort = Some (sort_of r); is_state = st r }; right = rt r }
 
   unfoldable pub sorts : List (Op Ref) → List Judged
   unfolding read look judge rule carried is_state_op map_op

@@ -1,6 +1,8 @@
 -- How many bytes a load or a store reaches: RISC-V Unprivileged ISA manual (20191213), sections 2.6 and 5.3.
 use Rattle.std.specs.Prelude.{ℕ, ◌+◌, ◌%◌, ◌^◌, ◌≤◌, cond, [], ◌∷◌}
-use Rattle.riscv.specs.Kind.{Kind, Lb, Lh, Lw, Ld, Lbu, Lhu, Sb, Sh, Sw, Sd, one_of}
+use Rattle.riscv.specs.declared.Kind.{Kind}
+use Rattle.riscv.specs.declared.Kind.TheVariants.{Lb, Lh, Lw, Ld, Lbu, Lhu, Sb, Sh, Sw, Sd}
+use Rattle.riscv.specs.Kind.{one_of}
 
 -- 0 for a kind that is neither
 abbrev pub access_bytes : Kind → ℕ

@@ -1,6 +1,8 @@
 -- Of which calls demand 3 speaks: document 01, "Start, storage, evaluation", and document 02, R-4.
 use Rattle.std.specs.Prelude.{ℕ, Bool, [], ◌∷◌, T}
-use Rattle.riscv.specs.Kind.{Kind, Mul, Mulw, one_of}
+use Rattle.riscv.specs.declared.Kind.{Kind}
+use Rattle.riscv.specs.declared.Kind.TheVariants.{Mul, Mulw}
+use Rattle.riscv.specs.Kind.{one_of}
 use Rattle.meaning.specs.Access.{InOneWord}
 use Rattle.meaning.specs.Division.{ordinary}
 

@@ -1,6 +1,8 @@
 -- Which divisions are ordinary: document 02, R-4. The operands are the values of rs1, the dividend, and rs2, the divisor.
 use Rattle.std.specs.Prelude.{ℕ, ◌-◌, ◌%◌, ◌^◌, Bool, ◌&&◌, ◌||◌, not, [], ◌∷◌, eqb}
-use Rattle.riscv.specs.Kind.{Kind, Div, Divw, one_of}
+use Rattle.riscv.specs.declared.Kind.{Kind}
+use Rattle.riscv.specs.declared.Kind.TheVariants.{Div, Divw}
+use Rattle.riscv.specs.Kind.{one_of}
 
 -- "for Divw both on the low 32 bits", as RISC-V manual, section 7.2: "divide the lower 32 bits of rs1 by the lower 32 bits of rs2"
 abbrev pub low32 : ℕ → ℕ

@@ -2,7 +2,7 @@
 #![tactic(auto)]
 
 use btor2::NodeRef;
-use builder::Tally;
+use riscv::Zeros;
 
 // The places that an instruction reads: its flag, the nodes of rs1 and rs2, and nodes of the start. No flow is among them.
 #[derive(Clone, Copy)]
@@ -40,9 +40,9 @@ pub enum Outcome {
     Branch(NodeRef, NodeRef),
 }
 
+// The flows after a model, and what it gives.
 #[derive(Clone, Copy)]
 pub struct Modeled {
-    pub tally: Tally,
     pub flows: Flows,
     pub outcome: Outcome,
 }
@@ -50,8 +50,14 @@ pub struct Modeled {
 // A read that counts: the flows that it sets, and the word.
 #[derive(Clone, Copy)]
 pub struct Counted {
-    pub tally: Tally,
     pub counter: NodeRef,
     pub maximum: NodeRef,
     pub node: NodeRef,
+}
+
+// The constant of an instruction's lines, and which fields of the instruction are 0.
+#[derive(Clone, Copy)]
+pub struct Immediate {
+    pub imm: u64,
+    pub zeros: Zeros,
 }

@@ -1,33 +1,24 @@
 // Kinds whose result is a constant: Lui, Auipc, and the link of Jal and Jalr.
+ghost use Rattle.std.specs.Prelude.{ℕ};
 ghost use Rattle.models.specs.Kinds.{constant, link};
-ghost use Rattle.builder.specs.Gives.{Gives};
-ghost use Rattle.models.specs.Code.{flows_of, modeled_of};
+ghost use Rattle.models.specs.Places as P;
+ghost use Rattle.builder.specs.Builds.{Builds};
+ghost use Rattle.models.specs.Code.{outcome_of};
 
-use builder::{Tally, new_const};
-use models::{Flows, Modeled, Outcome};
+use builder::Builder;
+use models::{Immediate, Outcome};
 
-pub fn constant(list: &mut [u64], t: Tally, f: Flows, imm: u64) -> Modeled
-    ensures { Gives list.old t (constant (flows_of f) imm) list.new result.tally (modeled_of result) }
+pub fn constant(b: &mut Builder, imm: u64) -> Outcome
+    ensures { (f : P.Flows ℕ) → Builds b.old (constant f imm) b.new (P.gives f (outcome_of result)) }
 {
-    let c = new_const(list, t, imm);
-    let tally = c.tally;
-    let node = c.node;
-    Modeled {
-        tally: tally,
-        flows: f,
-        outcome: Outcome::Register(node),
-    }
+    Outcome::Register(b.new_const(imm))
 }
 
-pub fn link(list: &mut [u64], t: Tally, f: Flows, imm: u64, rd_is_zero: bool) -> Modeled
-    ensures { Gives list.old t (link rd_is_zero (flows_of f) imm) list.new result.tally (modeled_of result) }
+pub fn link(b: &mut Builder, i: Immediate) -> Outcome
+    ensures { (f : P.Flows ℕ) → Builds b.old (link i.zeros.rd f i.imm) b.new (P.gives f (outcome_of result)) }
 {
-    if rd_is_zero {
-        return Modeled {
-            tally: t,
-            flows: f,
-            outcome: Outcome::Nothing,
-        };
+    if i.zeros.rd {
+        return Outcome::Nothing;
     }
-    constant(list, t, f, imm)
+    constant(b, i.imm)
 }

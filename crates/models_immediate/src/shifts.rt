@@ -1,50 +1,31 @@
 // The register-immediate shifts of 32 bits: Slliw, Srliw, Sraiw.
+ghost use Rattle.std.specs.Prelude.{ℕ};
 ghost use Rattle.builder_ops.specs.Operator.{operator_of};
 ghost use Rattle.models.specs.Kinds.{model_slliw, shifted_back};
-ghost use Rattle.builder.specs.Gives.{Gives};
-ghost use Rattle.models.specs.Code.{operands_of, flows_of, modeled_of};
+ghost use Rattle.models.specs.Places as P;
+ghost use Rattle.builder.specs.Builds.{Builds};
+ghost use Rattle.models.specs.Code.{operands_of, outcome_of};
 
 use btor2_list::Bin;
-use builder::{Tally, new_bin, new_const};
+use builder::Builder;
 use builder_ops::{Operator, apply, new_sra};
-use models::{Flows, Modeled, Operands, Outcome};
+use models::{Operands, Outcome};
 
 // Srliw, Sraiw: by `amount`, which is 32 more than the instruction's.
-pub fn shifted_back(
-    list: &mut [u64],
-    t: Tally,
-    operator: Operator,
-    e: Operands,
-    f: Flows,
-    amount: u64,
-) -> Modeled
-    ensures { Gives list.old t (shifted_back (operator_of operator) (operands_of e) (flows_of f) amount) list.new result.tally (modeled_of result) }
+pub fn shifted_back(b: &mut Builder, operator: Operator, e: Operands, amount: u64) -> Outcome
+    ensures { (f : P.Flows ℕ) → Builds b.old (shifted_back (operator_of operator) (operands_of e) f amount) b.new (P.gives f (outcome_of result)) }
 {
-    let c = new_const(list, t, amount);
-    let thirtytwo = new_const(list, c.tally, 32);
-    let x = new_bin(list, thirtytwo.tally, Bin::Sll, e.rs1, thirtytwo.node);
-    let y = apply(list, x.tally, operator, x.node, c.node);
-    let tally = y.tally;
-    let node = y.node;
-    Modeled {
-        tally: tally,
-        flows: f,
-        outcome: Outcome::Register(node),
-    }
+    let c = b.new_const(amount);
+    let thirtytwo = b.new_const(32);
+    let x = b.new_bin(Bin::Sll, e.rs1, thirtytwo);
+    Outcome::Register(apply(b, operator, x, c))
 }
 
-pub fn model_slliw(list: &mut [u64], t: Tally, e: Operands, f: Flows, imm: u64) -> Modeled
-    ensures { Gives list.old t (model_slliw (operands_of e) (flows_of f) imm) list.new result.tally (modeled_of result) }
+pub fn model_slliw(b: &mut Builder, e: Operands, imm: u64) -> Outcome
+    ensures { (f : P.Flows ℕ) → Builds b.old (model_slliw (operands_of e) f imm) b.new (P.gives f (outcome_of result)) }
 {
-    let c = new_const(list, t, imm);
-    let thirtytwo = new_const(list, c.tally, 32);
-    let x = new_bin(list, thirtytwo.tally, Bin::Sll, e.rs1, c.node);
-    let y = new_sra(list, x.tally, x.node, thirtytwo.node);
-    let tally = y.tally;
-    let node = y.node;
-    Modeled {
-        tally: tally,
-        flows: f,
-        outcome: Outcome::Register(node),
-    }
+    let c = b.new_const(imm);
+    let thirtytwo = b.new_const(32);
+    let x = b.new_bin(Bin::Sll, e.rs1, c);
+    Outcome::Register(new_sra(b, x, thirtytwo))
 }

@@ -1,60 +1,28 @@
 // The read that counts, which loads and stores share.
 ghost use Rattle.models.specs.Counters.{counted_read};
-ghost use Rattle.builder.specs.Gives.{Gives};
+ghost use Rattle.builder.specs.Builds.{Builds};
 ghost use Rattle.models.specs.Code.{operands_of, flows_of, counted_of};
 
 use btor2::{NodeRef, NodeType};
 use btor2_list::Bin;
-use builder::{Tally, new_bin, new_ite, new_read, new_write};
+use builder::Builder;
 use models::{Counted, Flows, Operands};
 
 // A read that raises the counter cell, and the maximum where the raised count is above its node.
-pub(crate) fn counted_read(
-    list: &mut [u64],
-    t: Tally,
-    e: Operands,
-    f: Flows,
-    address: NodeRef,
-) -> Counted
-    ensures { Gives list.old t (counted_read (operands_of e) (flows_of f) address.0) list.new result.tally (counted_of result) }
+pub(crate) fn counted_read(b: &mut Builder, e: Operands, f: Flows, address: NodeRef) -> Counted
+    ensures { Builds b.old (counted_read (operands_of e) (flows_of f) address.0) b.new (counted_of result) }
 {
-    let current = new_read(list, t, e.counter, address);
-    let next = new_bin(list, current.tally, Bin::Add, current.node, e.one);
-    let above = new_bin(list, next.tally, Bin::Ult, e.maximum, next.node);
-    let update = new_ite(
-        list,
-        above.tally,
-        NodeType::Word,
-        above.node,
-        next.node,
-        e.maximum,
-    );
-    let m = new_ite(
-        list,
-        update.tally,
-        NodeType::Word,
-        e.flag,
-        update.node,
-        f.maximum,
-    );
-    let cell = new_write(list, m.tally, e.counter, address, next.node);
-    let c = new_ite(
-        list,
-        cell.tally,
-        NodeType::Memory,
-        e.flag,
-        cell.node,
-        f.counter,
-    );
-    let word = new_read(list, c.tally, e.memory, address);
-    let tally = word.tally;
-    let counter = c.node;
-    let maximum = m.node;
-    let node = word.node;
+    let current = b.new_read(e.counter, address);
+    let next = b.new_bin(Bin::Add, current, e.one);
+    let above = b.new_bin(Bin::Ult, e.maximum, next);
+    let update = b.new_ite(NodeType::Word, above, next, e.maximum);
+    let maximum = b.new_ite(NodeType::Word, e.flag, update, f.maximum);
+    let cell = b.new_write(e.counter, address, next);
+    let counter = b.new_ite(NodeType::Memory, e.flag, cell, f.counter);
+    let node = b.new_read(e.memory, address);
     Counted {
-        tally: tally,
-        counter: counter,
-        maximum: maximum,
-        node: node,
+        counter,
+        maximum,
+        node,
     }
 }

@@ -1,65 +1,45 @@
 // Products.
+ghost use Rattle.builder_ops.specs.Composed.{check_multiplication_overflow};
 ghost use Rattle.models.specs.Kinds.{model_mul, model_mulw};
-ghost use Rattle.builder.specs.Gives.{Gives};
-ghost use Rattle.models.specs.Code.{operands_of, flows_of, modeled_of};
+ghost use Rattle.models.specs.Places as P;
+ghost use Rattle.builder.specs.Builds.{Builds};
+ghost use Rattle.models.specs.Code.{operands_of, flows_of, outcome_of};
 
+use btor2::NodeRef;
 use btor2_list::Bin;
-use builder::{Tally, new_bin, new_const};
-use builder_ops::{check_multiplication_overflow, new_sext_by};
-use models::{Flows, Modeled, Operands, Outcome};
+use builder::Builder;
+use builder_ops::{Operation, check_multiplication_overflow, new_sext_by};
+use models::{Flows, Operands, Outcome};
 
-pub fn model_mul(list: &mut [u64], t: Tally, e: Operands, f: Flows) -> Modeled
-    ensures { Gives list.old t (model_mul (operands_of e) (flows_of f)) list.new result.tally (modeled_of result) }
+pub fn model_mul(b: &mut Builder, e: Operands, f: &mut Flows) -> Outcome
+    ensures { Builds b.old (model_mul (operands_of e) (flows_of f.old)) b.new (P.gives (flows_of f.new) (outcome_of result)) }
 {
-    let x = new_bin(list, t, Bin::Mul, e.rs1, e.rs2);
-    let overflow = check_multiplication_overflow(
-        list,
-        x.tally,
-        e.flag,
-        e.zero,
-        f.multiplication,
-        e.rs1,
-        e.rs2,
-        x.node,
-    );
-    let tally = overflow.tally;
-    let its_multiplication = overflow.node;
-    let node = x.node;
-    let mut g = f;
-    g.multiplication = its_multiplication;
-    Modeled {
-        tally: tally,
-        flows: g,
-        outcome: Outcome::Register(node),
-    }
+    let x = b.new_bin(Bin::Mul, e.rs1, e.rs2);
+    f.multiplication = checked(b, e, f.multiplication, x);
+    Outcome::Register(x)
 }
 
-pub fn model_mulw(list: &mut [u64], t: Tally, e: Operands, f: Flows) -> Modeled
-    ensures { Gives list.old t (model_mulw (operands_of e) (flows_of f)) list.new result.tally (modeled_of result) }
+pub fn model_mulw(b: &mut Builder, e: Operands, f: &mut Flows) -> Outcome
+    ensures { Builds b.old (model_mulw (operands_of e) (flows_of f.old)) b.new (P.gives (flows_of f.new) (outcome_of result)) }
 {
-    let thirtytwo = new_const(list, t, 32);
-    let left = new_sext_by(list, thirtytwo.tally, e.rs1, thirtytwo.node);
-    let right = new_sext_by(list, left.tally, e.rs2, thirtytwo.node);
-    let product = new_bin(list, right.tally, Bin::Mul, left.node, right.node);
-    let x = new_sext_by(list, product.tally, product.node, thirtytwo.node);
-    let overflow = check_multiplication_overflow(
-        list,
-        x.tally,
-        e.flag,
-        e.zero,
-        f.multiplication,
-        e.rs1,
-        e.rs2,
-        x.node,
-    );
-    let tally = overflow.tally;
-    let its_multiplication = overflow.node;
-    let node = x.node;
-    let mut g = f;
-    g.multiplication = its_multiplication;
-    Modeled {
-        tally: tally,
-        flows: g,
-        outcome: Outcome::Register(node),
-    }
+    let thirtytwo = b.new_const(32);
+    let left = new_sext_by(b, e.rs1, thirtytwo);
+    let right = new_sext_by(b, e.rs2, thirtytwo);
+    let product = b.new_bin(Bin::Mul, left, right);
+    let x = new_sext_by(b, product, thirtytwo);
+    f.multiplication = checked(b, e, f.multiplication, x);
+    Outcome::Register(x)
+}
+
+// The multiplication flow after a product of rs1 and rs2. With the addition's in sums.rt it would be one function over the test, whose contract would
+// name a program for a closure: no plainer.
+fn checked(b: &mut Builder, e: Operands, flow: NodeRef, rd: NodeRef) -> NodeRef
+    ensures { Builds b.old (check_multiplication_overflow e.flag.0 e.zero.0 flow.0 e.rs1.0 e.rs2.0 rd.0) b.new result.0 }
+{
+    let operation = Operation {
+        rs1: e.rs1,
+        rs2: e.rs2,
+        rd,
+    };
+    check_multiplication_overflow(b, e.flag, e.zero, flow, operation)
 }

@@ -1,61 +1,36 @@
 // Kinds on two registers: logic, shifts, compare.
+ghost use Rattle.std.specs.Prelude.{ℕ};
 ghost use Rattle.builder_ops.specs.Operator.{operator_of};
 ghost use Rattle.models.specs.Kinds.{with_register, model_sltu, shifted};
-ghost use Rattle.builder.specs.Gives.{Gives};
-ghost use Rattle.models.specs.Code.{operands_of, flows_of, modeled_of};
+ghost use Rattle.models.specs.Places as P;
+ghost use Rattle.builder.specs.Builds.{Builds};
+ghost use Rattle.models.specs.Code.{operands_of, outcome_of};
 
 use btor2::NodeType;
 use btor2_list::Bin;
-use builder::{Tally, new_and_word, new_bin, new_const, new_ext};
+use builder::Builder;
 use builder_ops::{Operator, apply};
-use models::{Flows, Modeled, Operands, Outcome};
+use models::{Operands, Outcome};
 
 // Or, And.
-pub fn with_register(
-    list: &mut [u64],
-    t: Tally,
-    operator: Operator,
-    e: Operands,
-    f: Flows,
-) -> Modeled
-    ensures { Gives list.old t (with_register (operator_of operator) (operands_of e) (flows_of f)) list.new result.tally (modeled_of result) }
+pub fn with_register(b: &mut Builder, operator: Operator, e: Operands) -> Outcome
+    ensures { (f : P.Flows ℕ) → Builds b.old (with_register (operator_of operator) (operands_of e) f) b.new (P.gives f (outcome_of result)) }
 {
-    let x = apply(list, t, operator, e.rs1, e.rs2);
-    let tally = x.tally;
-    let node = x.node;
-    Modeled {
-        tally: tally,
-        flows: f,
-        outcome: Outcome::Register(node),
-    }
+    Outcome::Register(apply(b, operator, e.rs1, e.rs2))
 }
 
 // Sll, Srl, Sra: by the low 6 bits of rs2.
-pub fn shifted(list: &mut [u64], t: Tally, operator: Operator, e: Operands, f: Flows) -> Modeled
-    ensures { Gives list.old t (shifted (operator_of operator) (operands_of e) (flows_of f)) list.new result.tally (modeled_of result) }
+pub fn shifted(b: &mut Builder, operator: Operator, e: Operands) -> Outcome
+    ensures { (f : P.Flows ℕ) → Builds b.old (shifted (operator_of operator) (operands_of e) f) b.new (P.gives f (outcome_of result)) }
 {
-    let mask = new_const(list, t, 63);
-    let amount = new_and_word(list, mask.tally, e.rs2, mask.node);
-    let x = apply(list, amount.tally, operator, e.rs1, amount.node);
-    let tally = x.tally;
-    let node = x.node;
-    Modeled {
-        tally: tally,
-        flows: f,
-        outcome: Outcome::Register(node),
-    }
+    let mask = b.new_const(63);
+    let amount = b.new_and(NodeType::Word, e.rs2, mask);
+    Outcome::Register(apply(b, operator, e.rs1, amount))
 }
 
-pub fn model_sltu(list: &mut [u64], t: Tally, e: Operands, f: Flows) -> Modeled
-    ensures { Gives list.old t (model_sltu (operands_of e) (flows_of f)) list.new result.tally (modeled_of result) }
+pub fn model_sltu(b: &mut Builder, e: Operands) -> Outcome
+    ensures { (f : P.Flows ℕ) → Builds b.old (model_sltu (operands_of e) f) b.new (P.gives f (outcome_of result)) }
 {
-    let x = new_bin(list, t, Bin::Ult, e.rs1, e.rs2);
-    let y = new_ext(list, x.tally, NodeType::Bit, x.node);
-    let tally = y.tally;
-    let node = y.node;
-    Modeled {
-        tally: tally,
-        flows: f,
-        outcome: Outcome::Register(node),
-    }
+    let less = b.new_bin(Bin::Ult, e.rs1, e.rs2);
+    Outcome::Register(b.new_ext(NodeType::Bit, less))
 }

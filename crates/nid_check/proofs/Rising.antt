@@ -1,4 +1,5 @@
 -- One identifier after the other, one line after the other. Assumes nothing.
+use Rattle.std.specs.Prelude.{Some, None}
 use Prim.Native.Nat.{ℕ, ◌+◌, ◌≤◌, ◌<◌}
 use mathlib.Core.Path.{◌≡◌, refl, sym, ◌∙◌, ap}
 use mathlib.Core.Bool.{Bool, true, false, cond, not, ◌&&◌, ◌||◌, or-true, true≢false, false≢true}
@@ -16,7 +17,6 @@ use Rattle.btor2_list.specs.Node.{Node, no_node, node_of}
 use Rattle.btor2_list.specs.View.{view}
 use Rattle.btor2_list.proofs.View.{view-length, view_at}
 use Rattle.list_check.specs.Lines.{any}
-use Rattle.nid_check.specs.declared.Rise.TheVariants.{To, Out}
 use Rattle.nid_check.specs.Identifiers.{onwards, taken_by, taken, rising, reserved}
 use Rattle.nid_check.specs.Inside.{nid_out, rise_of}
 
@@ -54,11 +54,11 @@ module _ (next last t : ℕ) (ts : List ℕ) where
 -- ---- one line
 
 module _ (next last : ℕ) (x : Node) (us : List ℕ) where
-  line_on : (t : ℕ) → rise_of next last x ≡ To t → out_from next last (taken_by x ++ us) ≡ out_from next t us
+  line_on : (t : ℕ) → rise_of next last x ≡ Some t → out_from next last (taken_by x ++ us) ≡ out_from next t us
   line_on t = go (nid_out next last x.nid) (has_init x.op) (nid_out next x.nid (x.nid + 1)) refl refl
     where
       go : (a h b : Bool) → nid_out next last x.nid ≡ a → nid_out next x.nid (x.nid + 1) ≡ b
-          → cond a Out (cond (eqb (cond h 2 1) 1) (To x.nid) (cond b Out (To (x.nid + 1)))) ≡ To t
+          → cond a None (cond (eqb (cond h 2 1) 1) (Some x.nid) (cond b None (Some (x.nid + 1)))) ≡ Some t
           → out_from next last (onwards x.nid (cond h 2 1) ++ us) ≡ out_from next t us
       go true h b e f r = let z : ◌≡◌ {A = ℕ} 0 1 = cc in absurd (omega arith)
       go false true true e f r = let z : ◌≡◌ {A = ℕ} 0 1 = cc in absurd (omega arith)
@@ -67,11 +67,11 @@ module _ (next last : ℕ) (x : Node) (us : List ℕ) where
           nid_on next last x.nid ((x.nid + 1) ∷ us) e ∙ nid_on next x.nid (x.nid + 1) us f ∙ ap (λ (k : ℕ). out_from next k us) same
       go false false b e f r = let same : x.nid ≡ t = cc in nid_on next last x.nid us e ∙ ap (λ (k : ℕ). out_from next k us) same
 
-  line_hit : rise_of next last x ≡ Out → out_from next last (taken_by x ++ us) ≡ true
+  line_hit : rise_of next last x ≡ None → out_from next last (taken_by x ++ us) ≡ true
   line_hit = go (nid_out next last x.nid) (has_init x.op) (nid_out next x.nid (x.nid + 1)) refl refl
     where
       go : (a h b : Bool) → nid_out next last x.nid ≡ a → nid_out next x.nid (x.nid + 1) ≡ b
-          → cond a Out (cond (eqb (cond h 2 1) 1) (To x.nid) (cond b Out (To (x.nid + 1)))) ≡ Out
+          → cond a None (cond (eqb (cond h 2 1) 1) (Some x.nid) (cond b None (Some (x.nid + 1)))) ≡ None
           → out_from next last (onwards x.nid (cond h 2 1) ++ us) ≡ true
       go true true b e f r = nid_hit next last x.nid ((x.nid + 1) ∷ us) e
       go true false b e f r = nid_hit next last x.nid us e
@@ -87,12 +87,12 @@ module _ (ws : List ℕ) (n next last i : ℕ) where
       rw (add-one, ← view_at ws n no_node i h)
       (drop-cons (view ws n) i no_node (rw (view-length ws n) h))
 
-  pub rise_on : i < n → (t : ℕ) → rise_of next last (node_of (record_at ws i)) ≡ To t
+  pub rise_on : i < n → (t : ℕ) → rise_of next last (node_of (record_at ws i)) ≡ Some t
       → out_from next t (taken (drop (i + 1) (view ws n))) ≡ out_from next last (taken (drop i (view ws n)))
   unfolding taken
   rise_on h t e = rw (rest h) (sym (line_on next last (node_of (record_at ws i)) (taken (drop (i + 1) (view ws n))) t e))
 
-  pub rise_hit : i < n → rise_of next last (node_of (record_at ws i)) ≡ Out → out_from next last (taken (drop i (view ws n))) ≡ true
+  pub rise_hit : i < n → rise_of next last (node_of (record_at ws i)) ≡ None → out_from next last (taken (drop i (view ws n))) ≡ true
   unfolding taken
   rise_hit h e = rw (rest h) (line_hit next last (node_of (record_at ws i)) (taken (drop (i + 1) (view ws n))) e)
 

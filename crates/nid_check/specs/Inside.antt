@@ -1,9 +1,7 @@
 -- What only private contracts cite.
-use Rattle.std.specs.Prelude.{ℕ, ◌+◌, Bool, cond, ◌||◌, leb, eqb}
+use Rattle.std.specs.Prelude.{ℕ, ◌+◌, Bool, cond, ◌||◌, leb, eqb, Option, Some, None}
 use Rattle.btor2.specs.Op.{identifiers}
 use Rattle.btor2_list.specs.Node.{Node}
-use Rattle.nid_check.specs.declared.Rise.{Rise}
-use Rattle.nid_check.specs.declared.Rise.TheVariants.{To, Out}
 use Rattle.nid_check.specs.Identifiers.{reserved}
 
 -- an identifier that may not stand after `last` and before `next`
@@ -11,7 +9,7 @@ abbrev pub nid_out : ℕ → ℕ → ℕ → Bool
 nid_out next last t = leb t last || (reserved t || leb next t)
 
 -- how far the identifiers of a line go
-abbrev pub rise_of : ℕ → ℕ → Node → Rise
+abbrev pub rise_of : ℕ → ℕ → Node → Option ℕ
 rise_of next last x =
-    cond (nid_out next last x.nid) Out
-    (cond (eqb (identifiers x.op) 1) (To x.nid) (cond (nid_out next x.nid (x.nid + 1)) Out (To (x.nid + 1))))
+    cond (nid_out next last x.nid) None
+    (cond (eqb (identifiers x.op) 1) (Some x.nid) (cond (nid_out next x.nid (x.nid + 1)) None (Some (x.nid + 1))))

@@ -2,4 +2,3 @@ pub mod Each
 pub mod Outcomes
 pub mod Identifiers
 pub mod Rooms
-pub mod Bounds

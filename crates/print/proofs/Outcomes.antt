@@ -10,6 +10,9 @@ use lib.Dec.{ltb}
 use Rattle.text.specs.Put.{Put}
 use Rattle.text.proofs.Laws.{put_is}
 use Rattle.line_text.specs.Line.{nodes, run_text}
+use Rattle.refusals.specs.declared.Refusal.{Refusal}
+use Rattle.refusals.proofs.Numbered.{numbered}
+use Rattle.refusals.specs.Refusal.{refusal_number}
 use Rattle.print.specs.Printing.{refused, written, print_outcome, whole_refusal, printing}
 
 module _ (ws : List ℕ) (lines : ℕ) (host ours : List ℕ) (from count : ℕ) (out : List ℕ) where
@@ -21,9 +24,9 @@ module _ (ws : List ℕ) (lines : ℕ) (host ours : List ℕ) (from count : ℕ)
   refused_9 e = rw e
 
   module _ (inside : ltb lines (from + count) ≡ false) where
-    pub refused_whole : (n : ℕ) → n ≡ whole_refusal ws lines (length host) (length ours) → (n ≡ 0 → ⊥) → print_outcome (refused n) out ≡ printing ws lines host ours from count out
+    pub refused_whole : (r : Refusal) → refusal_number r ≡ whole_refusal ws lines (length host) (length ours) → print_outcome (refused (refusal_number r)) out ≡ printing ws lines host ours from count out
     unfolding printing
-    refused_whole n e z = rw (inside, ← e, ne_eqb n 0 z)
+    refused_whole r e = rw (inside, ← e, ne_eqb (refusal_number r) 0 (numbered r))
 
     module _ (whole : whole_refusal ws lines (length host) (length ours) ≡ 0) where
       pub refused_14 : length out < length run → print_outcome (refused 14) out ≡ printing ws lines host ours from count out

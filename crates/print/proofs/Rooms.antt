@@ -1,4 +1,5 @@
 -- The room that a line, and a run of lines, takes at most, where identifiers are in bounds. Assumes nothing.
+use Rattle.std.specs.Prelude.{Option, Some, None}
 use Prim.Native.Nat.{ℕ, zero, suc, ◌+◌, ◌-◌, ◌*◌, ◌%◌, ◌^◌, ◌≤◌, ◌<◌}
 use mathlib.Core.Path.{◌≡◌, refl, ap, ◌∙◌}
 use mathlib.Core.Bool.{Bool, true, false, cond, ◌||◌}
@@ -16,8 +17,6 @@ use Rattle.row_text.proofs.Split.{wider}
 use Rattle.btor2.specs.declared.Name.{Name}
 use Rattle.btor2.specs.declared.NodeType.{NodeType}
 use Rattle.btor2.specs.declared.NodeType.TheVariants.{Bit, Word, Memory, Input1Byte, Input2Byte, Input3Byte, Input4Byte, Input5Byte, Input6Byte, Input7Byte}
-use Rattle.btor2.specs.declared.MaybeSort.{MaybeSort}
-use Rattle.btor2.specs.declared.MaybeSort.TheVariants.{Sort, NoSort}
 use Rattle.btor2.specs.Sort.{sort_number, sort_numbered, width}
 use Rattle.btor2.specs.Op.{Bin, add, sub, mul, udiv, sdiv, urem, sll, srl, ult, Op, const, read, write, bin, uext, ite, eq, and, or, not, state, state_init, next, input, bad, unknown, map_op, bin_sort}
 use Rattle.btor2_list.specs.declared.Line.{Line}
@@ -175,9 +174,9 @@ module _ (l : Line) where
   abbrev most : ℕ → ℕ
   most k = cond (has_name k) (10 + l.name.len) 0
 
-  sorted : (m : MaybeSort) (g : NodeType → Op ℕ) (n : ℕ) → ((s : NodeType) → name_room (g s) ≤ n) → name_room (with_sort m g) ≤ n
-  sorted (Sort s) g n h = h s
-  sorted NoSort g n h = omega arith
+  sorted : (m : Option NodeType) (g : NodeType → Op ℕ) (n : ℕ) → ((s : NodeType) → name_room (g s) ≤ n) → name_room (with_sort m g) ≤ n
+  sorted (Some s) g n h = h s
+  sorted None g n h = omega arith
 
   one_of : (b : Bool) (o p : Op ℕ) (n : ℕ) → name_room o ≤ n → name_room p ≤ n → name_room (cond b o p) ≤ n
   one_of true o p n h h' = h

@@ -1,22 +1,22 @@
 -- Printing a run of lines (document 01, "Who can be refused, and with what"): "printing a run of lines 9, 11 (both over the whole list), 14.
 -- First match wins."
-use Rattle.std.specs.Prelude.{ℕ, ◌+◌, Bool, cond, not, ◌||◌, List, ◌++◌, eqb, ltb, length, drop}
+use Rattle.std.specs.Prelude.{ℕ, ◌+◌, Bool, cond, not, ◌||◌, List, ◌++◌, eqb, ltb, length, drop, Result, Ok, Err}
 use Rattle.btor2_list.specs.Limits.{most_nid, lines_out}
 use Rattle.btor2_list.specs.Record.{capacity}
 use Rattle.list_check.specs.Lines.{some}
 use Rattle.list_check.specs.Formed.{unformed_words}
 use Rattle.line_text.specs.Line.{nodes, nid_at, run_text}
-use Rattle.print.specs.declared.Printed.{Printed}
-use Rattle.print.specs.declared.Printed.TheVariants.{Refused, Written}
+use Rattle.refusals.specs.declared.Refusal.{Refusal}
+use Rattle.refusals.specs.Refusal.{refusal_number}
 
 -- the answer: "A refusal returns its number alone"; a text that is printed, its length
 pub data PrintAnswer : Type 0 where
   refused : ℕ → PrintAnswer
   written : ℕ → PrintAnswer
 
-abbrev pub answer_of : Printed → PrintAnswer
-answer_of (Refused number) = refused number
-answer_of (Written n) = written n
+abbrev pub answer_of : Result ℕ Refusal → PrintAnswer
+answer_of (Ok n) = written n
+answer_of (Err r) = refused (refusal_number r)
 
 pub record PrintOutcome : Type 0 where
   pub answer : PrintAnswer

@@ -5,126 +5,74 @@
 // tools/print_cases.py made the commands and what is to be written; the text is what the unchanged Rust prints.
 #![tactic(auto)]
 
-use cases::{read_decimal, read_full, read_record, show};
-use print::Printed;
+use cases::{Commands, Placed, read_full};
+use line_text::{Areas, Listing};
 use std::io;
 
 fn main(rt: HostRuntime) -> io::Result<()> {
     let mut buffer = [0u8; 262144];
     let n = read_full(&mut rt.stdin(), &mut buffer)?;
     let mut list = [0u64; 643];
-    run(&rt, &buffer[..n], &mut list)
-}
-
-fn run(rt: &impl Print, text: &[u8], list: &mut [u64]) -> io::Result<()> {
-    let mut at = 0;
-    while at < text.len() {
-        let next = run_line(rt, text, at, list)?;
-        if next <= at {
-            return Ok(());
+    let mut commands = Commands::new(&buffer[..n]);
+    // Each command takes a byte at least.
+    for _ in 0..n {
+        if commands.is_empty() {
+            break;
         }
-        at = next;
+        run_command(&rt, &mut commands, &mut list)?;
     }
     Ok(())
 }
 
-// One command; the answer is where the next one starts.
-fn run_line(rt: &impl Print, text: &[u8], at: usize, list: &mut [u64]) -> io::Result<usize> {
-    let command = read_decimal(text, at);
-    let from = command.next;
-    let which = command.value;
-    if which == 1 {
-        return Ok(run_put(text, from, list));
+fn run_command(rt: &impl Print, commands: &mut Commands, list: &mut [u64]) -> io::Result<()> {
+    if commands.number() == 1 {
+        let Placed { place, line } = commands.record();
+        btor2_list::put(list, place, line);
+        return Ok(());
     }
-    run_print(rt, text, from, list)
-}
-
-fn run_put(text: &[u8], at: usize, list: &mut [u64]) -> usize {
-    let read = read_record(text, at);
-    btor2_list::put(list, read.place, read.line);
-    read.next
-}
-
-fn run_print(rt: &impl Print, text: &[u8], at: usize, list: &[u64]) -> io::Result<usize> {
-    let lines = read_decimal(text, at);
-    let from = read_decimal(text, lines.next);
-    let count = read_decimal(text, from.next);
-    let room = read_decimal(text, count.next);
-    let mut out = [46u8; 16384];
-    lend(
-        rt,
+    let lines = commands.number();
+    let from = commands.number();
+    let count = commands.number();
+    let room = commands.number();
+    let mut out = [b'.'; 16384];
+    let listing = Listing {
         list,
-        lines.value as usize,
-        from.value as usize,
-        count.value as usize,
-        room.value as usize,
-        &mut out,
-    )?;
-    Ok(room.next)
-}
-
-// The first `room` bytes are the output.
-fn lend(
-    rt: &impl Print,
-    list: &[u64],
-    lines: usize,
-    from: usize,
-    count: usize,
-    room: usize,
-    out: &mut [u8],
-) -> io::Result<()> {
-    if room <= out.len() {
-        show_run(rt, list, lines, from, count, &mut out[..room])?;
+        lines: lines as usize,
+        areas: Areas {
+            host: b"x1x31 counter-max\xce\xbb",
+            ours: b"flagunimplemented-pc-10000",
+        },
+    };
+    // Where there are not so many bytes, nothing is printed.
+    match out.get_mut(..room as usize) {
+        Some(part) => show_run(rt, &listing, from as usize, count as usize, part),
+        None => Ok(()),
     }
-    Ok(())
 }
 
 fn show_run(
     rt: &impl Print,
-    list: &[u64],
-    lines: usize,
+    listing: &Listing,
     from: usize,
     count: usize,
     out: &mut [u8],
 ) -> io::Result<()> {
-    let host = b"x1x31 counter-max\xce\xbb";
-    let ours = b"flagunimplemented-pc-10000";
-    match print::print(list, lines, host, ours, from, count, out) {
-        Printed::Refused(number) => show_refused(rt, number, out),
-        Printed::Written(n) => show_written(rt, n, out),
-    }
-}
-
-fn show_refused(rt: &impl Print, number: u64, out: &[u8]) -> io::Result<()> {
-    rt.write_all(b"refused ")?;
-    show(rt, number, b"\n")?;
-    show_left(rt, out, 0)
-}
-
-fn show_written(rt: &impl Print, n: usize, out: &[u8]) -> io::Result<()> {
-    rt.write_all(b"written ")?;
-    show(rt, n as u64, b"\n")?;
-    show_text(rt, n, out)?;
-    show_left(rt, out, n)
-}
-
-fn show_text(rt: &impl Print, n: usize, out: &[u8]) -> io::Result<()> {
-    if n <= out.len() {
-        rt.write_all(&out[..n])?;
-    }
-    Ok(())
-}
-
-// How many bytes from a place on are full stops.
-fn show_left(rt: &impl Print, out: &[u8], from: usize) -> io::Result<()> {
-    let mut n: u64 = 0;
-    let mut i = from;
-    while i < out.len() {
-        if out[i] == 46 {
-            n = std::num::wrapping_add_u64(n, 1);
+    match print::print(listing, from, count, out) {
+        Err(refusal) => {
+            println!(rt; "refused {}", refusal.number())?;
+            show_left(rt, out)
         }
-        i += 1;
+        Ok(n) => {
+            println!(rt; "written {n}")?;
+            let (text, left) = out.split_at(n.min(out.len()));
+            rt.write_all(text)?;
+            show_left(rt, left)
+        }
     }
-    rt.write_all(b"left ")?;
-    show(rt, n, b"\n")
+}
+
+// How many bytes are full stops.
+fn show_left(rt: &impl Print, out: &[u8]) -> io::Result<()> {
+    let left = out.iter().filter(|b| **b == b'.').count();
+    println!(rt; "left {left}")
 }

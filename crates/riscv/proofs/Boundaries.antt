@@ -5,7 +5,9 @@ use mathlib.Core.Bool.{Bool, true, ◌&&◌, not}
 use mathlib.Core.List.{List, [], ◌∷◌}
 use lib.Dec.{eqb}
 use Rattle.riscv.specs.declared.Instruction.{Instruction}
-use Rattle.riscv.specs.Kind.{Kind, Lui, Lb, Sb, Addi, Slli, Srai, Slliw, Srliw, Sraiw, Add, Beq, Jal, Jalr, Ecall, kind_number}
+use Rattle.riscv.specs.declared.Kind.{Kind}
+use Rattle.riscv.specs.declared.Kind.TheVariants.{Lui, Lb, Sb, Addi, Slli, Srai, Slliw, Srliw, Sraiw, Add, Beq, Jal, Jalr, Ecall}
+use Rattle.riscv.specs.Kind.{kind_number}
 use Rattle.riscv.specs.Zeros.{zeros_of}
 use Rattle.riscv.specs.Class.{needs_flag}
 use Rattle.riscv.specs.Refusal.{refusal}

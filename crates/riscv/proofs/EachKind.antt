@@ -7,7 +7,9 @@ use lib.Dec.{T, lit<}
 use Rattle.bitvec.proofs.Base.{by_le}
 use Rattle.bitvec.proofs.Below.{all_below, at, left, right}
 use Rattle.riscv.specs.declared.Zeros.{Zeros}
-use Rattle.riscv.specs.Kind.{Kind, Ecall, kind_count, kind_at, kind_number}
+use Rattle.riscv.specs.declared.Kind.{Kind}
+use Rattle.riscv.specs.declared.Kind.TheVariants.{Ecall}
+use Rattle.riscv.specs.Kind.{kind_count, kind_at, kind_number}
 use Rattle.riscv.proofs.Numbered.{kind_back, kind_past}
 
 number_below_lem : (k : Kind) → kind_number k < kind_count

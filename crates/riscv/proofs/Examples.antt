@@ -6,7 +6,7 @@ use lib.Dec.{eqb}
 use Rattle.bitvec.specs.Smtlib.{negative}
 use Rattle.bitvec.specs.TwosComplement.{sext, sra, signed, bits_of, quot}
 use Rattle.bitvec.specs.Bytes.{byte_of, load_bytes, store_bytes}
-use Rattle.riscv.specs.Kind.{Lui, Auipc, Lh, Sraiw, Srliw, Div, Divw, Jal}
+use Rattle.riscv.specs.declared.Kind.TheVariants.{Lui, Auipc, Lh, Sraiw, Srliw, Div, Divw, Jal}
 use Rattle.riscv.specs.Manual.{sets_rd, load_at, store_at, manual}
 use Rattle.riscv.specs.Memory.{bytes_of, cells_with}
 

@@ -2,7 +2,7 @@
 use Prim.Native.Nat.{◌≤◌}
 use lib.Dec.{leb, leb→le}
 use Rattle.riscv.specs.declared.Zeros.{Zeros}
-use Rattle.riscv.specs.Kind.{Kind}
+use Rattle.riscv.specs.declared.Kind.{Kind}
 use Rattle.riscv.specs.Class.{plain_count, line_count, most_appended}
 use Rattle.riscv.proofs.EachKind.{by_kind, by_case}
 

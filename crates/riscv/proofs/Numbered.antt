@@ -1,16 +1,17 @@
 -- A kind is what its number says. Assumes nothing.
 use Prim.Native.Nat.{ℕ, ◌≤◌, ◌<◌}
-use mathlib.Core.Path.{◌≡◌, refl, sym, ◌∙◌}
-use mathlib.Core.Bool.{Bool, true, false, not, ◌&&◌, true≢false}
-use mathlib.Core.List.{List}
-use native.Mathlib.Omega.{arith}
-use borrow.Author.Tests.{ne_eqb, eq-eqb}
-use lib.Dec.{T, eqb, ltb, eqb→eq, ltb→lt}
+use mathlib.Core.Path.{◌≡◌, refl, sym, ap, ◌∙◌}
+use mathlib.Core.Bool.{Bool, false}
+use borrow.Author.Tests.{ne_eqb}
+use lib.Dec.{eqb, eqb→eq}
 use lib.ListN.{get_or-eq_default}
+use Rattle.std.specs.Prelude.{Some, None, slice_get}
+use Rattle.std.proofs.lemmas.Option.{get_or_from_slice_get, slice_get_past, slice_get-get_or}
 use Rattle.bitvec.proofs.Base.{by_le}
-use Rattle.riscv.specs.Kind.{Kind, Lui, Auipc, Lb, Lh, Lw, Ld, Lbu, Lhu, Sb, Sh, Sw, Sd, Addi, Sltiu, Xori, Ori, Andi, Slli, Srli, Srai, Addiw, Slliw, Srliw, Sraiw, Add, Sub, Sll, Sltu, Srl, Sra, Or, And, Mul, Div, Divu, Remu, Addw, Divw, Subw, Sllw, Mulw, Beq, Bne, Blt, Bge, Bltu, Bgeu, Jal, Jalr, Ecall, kinds, kind_count, kind_at, kind_number}
-use Rattle.bitvec.proofs.Below.{at, left, right}
-use Rattle.bitvec.proofs.LastArm.{NoneFrom, NoneOf, among, differs, past}
+use Rattle.riscv.specs.declared.Kind.{Kind}
+use Rattle.riscv.specs.declared.Kind.TheVariants.{Lui, Auipc, Lb, Lh, Lw, Ld, Lbu, Lhu, Sb, Sh, Sw, Sd, Addi, Sltiu, Xori, Ori, Andi, Slli, Srli, Srai, Addiw, Slliw, Srliw, Sraiw, Add, Sub, Sll, Sltu, Srl, Sra, Or, And, Mul, Div, Divu, Remu, Addw, Divw, Subw, Sllw, Mulw, Beq, Bne, Blt, Bge, Bltu, Bgeu, Jal, Jalr, Ecall}
+use Rattle.riscv.specs.Kind.{kinds, kind_count, kind_at, kind_number}
+use Rattle.bitvec.proofs.Below.{at}
 
 same : ℕ → Bool
 same n = eqb (kind_number (kind_at n)) n
@@ -75,29 +76,16 @@ kind_back Ecall = refl
 pub kind_past : (n : ℕ) → kind_count ≤ n → kind_at n ≡ Ecall
 kind_past n h = get_or-eq_default kinds Ecall {n = n} h
 
--- which is what the last arm of a match on a kind's number knows
-pub last_kind : (n : ℕ) → NoneFrom 0 kind_count n → kind_at n ≡ Ecall
-last_kind n none = kind_past n (past 0 kind_count n none (omega arith))
+-- two kinds have two numbers
+pub apart : (k j : Kind) → (k ≡ j → ⊥) → eqb (kind_number k) (kind_number j) ≡ false
+apart k j other = ne_eqb (kind_number k) (kind_number j) (λ e. other (sym (kind_back k) ∙ ap kind_at e ∙ kind_back j))
 
--- a number of a kind but Ecall
-abbrev pub other : ℕ → Bool
-other m = ltb m kind_count && not (eqb m (kind_number Ecall))
+-- which numbers are a kind's
+pub found : (n : ℕ) (k : Kind) → slice_get kinds n ≡ Some k → kind_at n ≡ k
+found n k e = get_or_from_slice_get kinds n k Ecall e
 
--- so such a kind is told by its number
-pub told : (n m : ℕ) → T (other m) → eqb (kind_number (kind_at n)) m ≡ eqb n m
-told n m h =
-    let within : m < kind_count = ltb→lt m kind_count (left (ltb m kind_count) (not (eqb m (kind_number Ecall))) h) in
-    by_le kind_count n
-    (λ l. rw (kind_past n l) (differ (eqb m (kind_number Ecall)) refl (right (ltb m kind_count) (not (eqb m (kind_number Ecall))) h) ∙ sym (ne_eqb n m (λ e. apart n m e l within))))
-    (λ l. rw (number_at n l))
-  where
-    apart : (n m : ℕ) → n ≡ m → kind_count ≤ n → m < kind_count → ⊥
-    apart n m e l h = omega arith
+pub found_within : (n : ℕ) (k : Kind) → slice_get kinds n ≡ Some k → n < kind_count
+found_within n k e = by_le kind_count n (λ l. let late : Some k ≡ None = sym e ∙ slice_get_past kinds n l in cc) (λ l. l)
 
-    differ : (b : Bool) → eqb m (kind_number Ecall) ≡ b → T (not b) → eqb (kind_number Ecall) m ≡ false
-    differ true e h = absurd h
-    differ false e h = ne_eqb (kind_number Ecall) m (λ q. true≢false (sym (eq-eqb m (kind_number Ecall) (sym q)) ∙ e))
-
--- and is none of the arms before the last
-pub none_of : (arms : List ℕ) (n : ℕ) → NoneOf arms n → (m : ℕ) → T (other m && among m arms) → eqb (kind_number (kind_at n)) m ≡ false
-none_of arms n none m h = told n m (left (other m) (among m arms) h) ∙ differs arms n none m (right (other m) (among m arms) h)
+pub not_found : (n : ℕ) → slice_get kinds n ≡ None → kind_count ≤ n
+not_found n e = by_le kind_count n (λ l. l) (λ l. let there : None ≡ Some (kind_at n) = sym e ∙ slice_get-get_or kinds n Ecall l in cc)

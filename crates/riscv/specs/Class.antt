@@ -1,7 +1,8 @@
 -- What the kinds of a class ask of a call besides their lines' text: how many lines they append, whether they need a flag. Document 01,
 -- "Lines appended" and refusals 5 and 7.
 use Rattle.std.specs.Prelude.{ℕ, ◌+◌, Bool, true, false, cond, not, ◌||◌, ◌&&◌}
-use Rattle.riscv.specs.Kind.{Kind, row_of}
+use Rattle.riscv.specs.declared.Kind.{Kind}
+use Rattle.riscv.specs.Kind.{row_of}
 use Rattle.riscv.specs.declared.Zeros.{Zeros}
 use Rattle.riscv.specs.declared.Class.{Class}
 use Rattle.riscv.specs.declared.Class.TheVariants.{Plain, Access, Addi, Branch, Jal, Jalr, Ecall}

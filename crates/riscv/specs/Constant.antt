@@ -1,6 +1,8 @@
 -- The constant that a kind's lines have (unicorn's `translate_to_model`).
 use Rattle.std.specs.Prelude.{ℕ, ◌+◌, ◌-◌, ◌*◌, ◌%◌, ◌^◌, cond, List, [], ◌∷◌, eqb, ltb}
-use Rattle.riscv.specs.Kind.{Kind, Lui, Auipc, Srai, Slliw, Srliw, Sraiw, Jal, Jalr, kind_number}
+use Rattle.riscv.specs.declared.Kind.{Kind}
+use Rattle.riscv.specs.declared.Kind.TheVariants.{Lui, Auipc, Srai, Slliw, Srliw, Sraiw, Jal, Jalr}
+use Rattle.riscv.specs.Kind.{kind_number}
 
 -- `((imm as i32) << 12) as u64`
 unfoldable pub upper : ℕ → ℕ

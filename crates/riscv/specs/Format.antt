@@ -3,7 +3,8 @@
 use Rattle.std.specs.Prelude.{ℕ, ◌-◌, ◌%◌, ◌^◌, Bool, true, false, ◌&&◌, ◌||◌, not, eqb, ltb, leb}
 use Rattle.riscv.specs.declared.Format.{Format}
 use Rattle.riscv.specs.declared.Format.TheVariants.{R, I, S, B, U, J, System}
-use Rattle.riscv.specs.Kind.{Kind, row_of}
+use Rattle.riscv.specs.declared.Kind.{Kind}
+use Rattle.riscv.specs.Kind.{row_of}
 
 abbrev pub format : Kind → Format
 format k = (row_of k).format

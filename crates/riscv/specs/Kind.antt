@@ -6,10 +6,8 @@ use Rattle.riscv.specs.declared.Format.{Format}
 use Rattle.riscv.specs.declared.Format.TheVariants.{R, I, S, B, U, J, System}
 use Rattle.riscv.specs.declared.Class.{Class}
 use Rattle.riscv.specs.declared.Class.TheVariants.{Plain, Access, Branch}
-
-pub data Kind : Type 0 where
-  Lui Auipc Lb Lh Lw Ld Lbu Lhu Sb Sh Sw Sd Addi Sltiu Xori Ori Andi Slli Srli Srai Addiw Slliw Srliw Sraiw Add Sub
-      Sll Sltu Srl Sra Or And Mul Div Divu Remu Addw Divw Subw Sllw Mulw Beq Bne Blt Bge Bltu Bgeu Jal Jalr Ecall : Kind
+use Rattle.riscv.specs.declared.Kind.{Kind}
+use Rattle.riscv.specs.declared.Kind.TheVariants.{Lui, Auipc, Lb, Lh, Lw, Ld, Lbu, Lhu, Sb, Sh, Sw, Sd, Addi, Sltiu, Xori, Ori, Andi, Slli, Srli, Srai, Addiw, Slliw, Srliw, Sraiw, Add, Sub, Sll, Sltu, Srl, Sra, Or, And, Mul, Div, Divu, Remu, Addw, Divw, Subw, Sllw, Mulw, Beq, Bne, Blt, Bge, Bltu, Bgeu, Jal, Jalr, Ecall}
 
 -- each at its number
 abbrev pub kinds : List Kind

@@ -1,7 +1,9 @@
 -- Refusals 1 to 6 (document 01, "Who can be refused, and with what": whoever wrote or decoded the firmware).
 use Rattle.std.specs.Prelude.{ℕ, ◌%◌, Bool, cond, ◌&&◌, ◌||◌, not, List, [], ◌∷◌, eqb, ltb}
 use Rattle.riscv.specs.declared.Instruction.{Instruction}
-use Rattle.riscv.specs.Kind.{Kind, Slli, Srli, Slliw, Srliw, Sraiw, Jalr, kind_count, kind_at, one_of}
+use Rattle.riscv.specs.declared.Kind.{Kind}
+use Rattle.riscv.specs.declared.Kind.TheVariants.{Slli, Srli, Slliw, Srliw, Sraiw, Jalr}
+use Rattle.riscv.specs.Kind.{kind_count, kind_at, one_of}
 use Rattle.riscv.specs.Format.{format, registers_out, immediate_out, writes_rd}
 use Rattle.riscv.specs.Class.{class, takes_zero_rd}
 

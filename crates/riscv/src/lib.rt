@@ -1,111 +1,146 @@
-// RV64 instructions as they come in: the numbers of the kinds, the record, and what the definitions and the code say of a kind.
+// RV64 instructions as they come in: the kinds and their numbers, the record, and what the definitions and the code say of a kind.
 #![tactic(auto)]
+
+ghost use Rattle.std.specs.Prelude.{◌≡◌, ◌<◌, slice_get};
+ghost use Rattle.riscv.specs.Kind.{kinds, kind_count, kind_at, kind_number};
 
 // The registers are x0 to x31.
 pub const LAST_REGISTER: u64 = 31;
 
-// The kinds, in the order of the first `match` of unicorn's `translate_to_model`.
+// The kinds, in the order of the first `match` of unicorn's `translate_to_model`: each has its place for its number. A record from a host may
+// hold any other number.
+#[derive(Clone, Copy, Debug, PartialEq, Eq)]
+pub enum Kind {
+    Lui,
+    Auipc,
+    Lb,
+    Lh,
+    Lw,
+    Ld,
+    Lbu,
+    Lhu,
+    Sb,
+    Sh,
+    Sw,
+    Sd,
+    Addi,
+    Sltiu,
+    Xori,
+    Ori,
+    Andi,
+    Slli,
+    Srli,
+    Srai,
+    Addiw,
+    Slliw,
+    Srliw,
+    Sraiw,
+    Add,
+    Sub,
+    Sll,
+    Sltu,
+    Srl,
+    Sra,
+    Or,
+    And,
+    Mul,
+    Div,
+    Divu,
+    Remu,
+    Addw,
+    Divw,
+    Subw,
+    Sllw,
+    Mulw,
+    Beq,
+    Bne,
+    Blt,
+    Bge,
+    Bltu,
+    Bgeu,
+    Jal,
+    Jalr,
+    Ecall,
+}
+
 pub const KINDS: u64 = 50;
 
-pub const LUI: u64 = 0;
+// Each kind at its number.
+static ALL: [Kind; KINDS as usize] = [
+    Kind::Lui,
+    Kind::Auipc,
+    Kind::Lb,
+    Kind::Lh,
+    Kind::Lw,
+    Kind::Ld,
+    Kind::Lbu,
+    Kind::Lhu,
+    Kind::Sb,
+    Kind::Sh,
+    Kind::Sw,
+    Kind::Sd,
+    Kind::Addi,
+    Kind::Sltiu,
+    Kind::Xori,
+    Kind::Ori,
+    Kind::Andi,
+    Kind::Slli,
+    Kind::Srli,
+    Kind::Srai,
+    Kind::Addiw,
+    Kind::Slliw,
+    Kind::Srliw,
+    Kind::Sraiw,
+    Kind::Add,
+    Kind::Sub,
+    Kind::Sll,
+    Kind::Sltu,
+    Kind::Srl,
+    Kind::Sra,
+    Kind::Or,
+    Kind::And,
+    Kind::Mul,
+    Kind::Div,
+    Kind::Divu,
+    Kind::Remu,
+    Kind::Addw,
+    Kind::Divw,
+    Kind::Subw,
+    Kind::Sllw,
+    Kind::Mulw,
+    Kind::Beq,
+    Kind::Bne,
+    Kind::Blt,
+    Kind::Bge,
+    Kind::Bltu,
+    Kind::Bgeu,
+    Kind::Jal,
+    Kind::Jalr,
+    Kind::Ecall,
+];
 
-pub const AUIPC: u64 = 1;
+impl Kind {
+    // The kind of a number, where there is one: an Option, as the definition has it, where TryFrom would want an error of its own.
+    pub fn numbered(number: u64) -> Option<Kind>
+        ensures { result ≡ slice_get kinds number }
+    {
+        ALL.get(number as usize).copied()
+    }
 
-pub const LB: u64 = 2;
+    // The kind of a number: what is no other kind is Ecall.
+    pub fn at(number: u64) -> Kind
+        ensures { result ≡ kind_at number }
+    {
+        Kind::numbered(number).unwrap_or(Kind::Ecall)
+    }
 
-pub const LH: u64 = 3;
-
-pub const LW: u64 = 4;
-
-pub const LD: u64 = 5;
-
-pub const LBU: u64 = 6;
-
-pub const LHU: u64 = 7;
-
-pub const SB: u64 = 8;
-
-pub const SH: u64 = 9;
-
-pub const SW: u64 = 10;
-
-pub const SD: u64 = 11;
-
-pub const ADDI: u64 = 12;
-
-pub const SLTIU: u64 = 13;
-
-pub const XORI: u64 = 14;
-
-pub const ORI: u64 = 15;
-
-pub const ANDI: u64 = 16;
-
-pub const SLLI: u64 = 17;
-
-pub const SRLI: u64 = 18;
-
-pub const SRAI: u64 = 19;
-
-pub const ADDIW: u64 = 20;
-
-pub const SLLIW: u64 = 21;
-
-pub const SRLIW: u64 = 22;
-
-pub const SRAIW: u64 = 23;
-
-pub const ADD: u64 = 24;
-
-pub const SUB: u64 = 25;
-
-pub const SLL: u64 = 26;
-
-pub const SLTU: u64 = 27;
-
-pub const SRL: u64 = 28;
-
-pub const SRA: u64 = 29;
-
-pub const OR: u64 = 30;
-
-pub const AND: u64 = 31;
-
-pub const MUL: u64 = 32;
-
-pub const DIV: u64 = 33;
-
-pub const DIVU: u64 = 34;
-
-pub const REMU: u64 = 35;
-
-pub const ADDW: u64 = 36;
-
-pub const DIVW: u64 = 37;
-
-pub const SUBW: u64 = 38;
-
-pub const SLLW: u64 = 39;
-
-pub const MULW: u64 = 40;
-
-pub const BEQ: u64 = 41;
-
-pub const BNE: u64 = 42;
-
-pub const BLT: u64 = 43;
-
-pub const BGE: u64 = 44;
-
-pub const BLTU: u64 = 45;
-
-pub const BGEU: u64 = 46;
-
-pub const JAL: u64 = 47;
-
-pub const JALR: u64 = 48;
-
-pub const ECALL: u64 = 49;
+    pub fn number(self) -> u64
+        ensures is { result ≡ kind_number self }
+        ensures below { result < kind_count }
+    {
+        self as u64
+    }
+}
 
 // An instruction. `imm` is the 64-bit two's complement word of the immediate; for U-format it is the field of 20 bits.
 #[derive(Clone, Copy)]

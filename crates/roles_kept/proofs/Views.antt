@@ -1,4 +1,5 @@
 -- The operators of the lent words: how many, and what a lookup says of one. Assumes nothing.
+use Rattle.std.specs.Prelude.{Option, Some, None}
 use Prim.Native.Nat.{ℕ, ◌+◌, ◌≤◌, ◌<◌}
 use native.Mathlib.Omega.{arith}
 use mathlib.Core.Path.{◌≡◌, refl, sym, ◌∙◌, ap, subst}
@@ -8,13 +9,10 @@ use lib.ListN.{length, get_or, length-map, get_or-map}
 use Rattle.bitvec.proofs.Base.{by_le}
 use Rattle.btor2.specs.declared.NodeType.{NodeType}
 use Rattle.btor2.specs.declared.NodeType.TheVariants.{Bit, Word, Memory, Input1Byte, Input2Byte, Input3Byte, Input4Byte, Input5Byte, Input6Byte, Input7Byte}
-use Rattle.btor2.specs.declared.MaybeSort.{MaybeSort}
-use Rattle.btor2.specs.declared.MaybeSort.TheVariants.{Sort, NoSort}
 use Rattle.btor2.specs.Sort.{sort_number, sort_or_none}
 use Rattle.btor2.specs.Op.{Op, carried, identifiers}
 use Rattle.btor2.specs.SortRule.{has_sort}
 use Rattle.btor2.proofs.LineIs.{line_is}
-use Rattle.btor2_list.specs.declared.MaybeAddress.{MaybeAddress}
 use Rattle.btor2_list.specs.Record.{words_for}
 use Rattle.btor2_list.specs.Node.{Node, no_node}
 use Rattle.btor2_list.specs.View.{view}
@@ -31,7 +29,7 @@ unfolding operators
 operators-length ws n = length-map (view ws n) (λ line. line.op) ∙ view-length ws n
 
 -- lines under identifiers are the lines
-pub numbered_operators : (w : MaybeAddress) (nid : ℕ) (os : List (Op ℕ)) → map (λ line. line.op) (numbered w nid os) ≡ os
+pub numbered_operators : (w : Option ℕ) (nid : ℕ) (os : List (Op ℕ)) → map (λ line. line.op) (numbered w nid os) ≡ os
 unfolding numbered
 numbered_operators w nid [] = refl
 numbered_operators w nid (o ∷ os) = ap (λ l. o ∷ l) (numbered_operators w (nid + identifiers o) os)
@@ -54,9 +52,9 @@ positive Input5Byte = lit< tt
 positive Input6Byte = lit< tt
 positive Input7Byte = lit< tt
 
-seen_is : (m : MaybeSort) (s : NodeType) → sort_or_none m ≡ sort_number s → T (has_sort s m)
-seen_is (Sort t) s e = subst (λ (k : ℕ). T (eqb (sort_number s) k)) (sym e) (eqb_refl (sort_number s))
-seen_is NoSort s e = absurd (omega (arith, positive s))
+seen_is : (m : Option NodeType) (s : NodeType) → sort_or_none m ≡ sort_number s → T (has_sort s m)
+seen_is (Some t) s e = subst (λ (k : ℕ). T (eqb (sort_number s) k)) (sym e) (eqb_refl (sort_number s))
+seen_is None s e = absurd (omega (arith, positive s))
 
 pub look_is : (ws : List ℕ) (n : ℕ) → words_for n ≤ length ws → (p : ℕ) (s : NodeType) → value_sort (look_at ws n p) ≡ sort_number s → T (line_is s (operators ws n) p)
 unfolding line_is operators
@@ -68,9 +66,9 @@ look_is ws n room p s e =
     (seen_is (carried (get_or (view ws n) p no_node).op) s (sym (ap value_sort (look_line ws n room p no_node h)) ∙ e)))
 
 -- and back
-is_seen : (m : MaybeSort) (s : NodeType) → T (has_sort s m) → sort_or_none m ≡ sort_number s
-is_seen (Sort t) s h = sym (eqb→eq (sort_number s) (sort_number t) h)
-is_seen NoSort s h = absurd h
+is_seen : (m : Option NodeType) (s : NodeType) → T (has_sort s m) → sort_or_none m ≡ sort_number s
+is_seen (Some t) s h = sym (eqb→eq (sort_number s) (sort_number t) h)
+is_seen None s h = absurd h
 
 pub is_look : (ws : List ℕ) (n : ℕ) → words_for n ≤ length ws → (p : ℕ) (s : NodeType) → T (line_is s (operators ws n) p) → value_sort (look_at ws n p) ≡ sort_number s
 unfolding line_is operators

@@ -1,122 +1,169 @@
 // Rows of node lines as text: a row is an identifier, a word, some numbers and perhaps a name. Where an output has room for the longest row
-// without a name, the row is stored there with one test; else it is put into an array of its own, and from there.
+// of so many numbers, the row is stored there with one test; else it is put piece by piece.
 #![tactic(auto)]
 
 mod digits;
-mod words;
 
-ghost use Rattle.std.specs.Prelude.{◌≡◌, true, false, [], ◌∷◌, ◌++◌, ◌+◌, ◌≤◌, length, take};
+ghost use Rattle.std.specs.Prelude.{◌≡◌, true, false, [], ◌∷◌, ◌++◌, ◌+◌, ◌*◌, ◌^◌, ◌<◌, ◌≤◌, length};
 ghost use Rattle.text.specs.Numeral.{decimal_text};
 ghost use Rattle.text.specs.Put.{Put};
-ghost use Rattle.row_text.specs.Words.{kind_word, spaced};
-ghost use Rattle.row_text.specs.Row.{row_text};
+ghost use Rattle.row_text.specs.Row.{numbers_text, row_text};
 
 use digits::put_in;
-use words::put_word_in;
 
-// The bytes of the longest row without a name: five numbers of 20 digits, a word and its spaces, three spaces more and a newline.
-const LONGEST: usize = 112;
+// The most bytes of a number, and of a number with the space before it.
+const NUMBER: usize = 20;
 
-// A row of a sort, or another first number, and the first `count` of three numbers.
+const SPACED: usize = 21;
+
+// A row with no name: its first number is a sort in most of them. What has room for it is put into each caller, where the word and how many
+// numbers there are is known: then no byte of the word is looked up and no number counted.
+#[inline(always)]
 pub fn put_row(
     out: &mut [u8],
     at: usize,
     nid: u64,
-    k: usize,
+    word: &[u8],
     sort: u64,
-    count: usize,
-    a: u64,
-    b: u64,
-    c: u64,
+    numbers: &[u64],
 ) -> usize
-    ensures { Put out.old at (row_text nid (kind_word k) (sort ∷ take count (a ∷ b ∷ c ∷ [])) false []) out.new result }
+    ensures { Put out.old at (row_text nid word.now (sort ∷ numbers.now) false []) out.new result }
 {
-    if has_room(out.len(), at) {
-        return row_in(out, at, nid, k, sort, count, a, b, c);
+    if has_room(out.len(), at, word.len(), numbers.len()) {
+        return row_in(out, at, nid, word, sort, numbers);
     }
-    let mut row = [0u8; 112];
-    let n = row_in(&mut row, 0, nid, k, sort, count, a, b, c);
-    text::put_bytes(out, at, &row[..n])
+    put_pieces(out, at, nid, word, sort, numbers)
 }
 
 // A row with one number and a name.
-pub fn put_named(out: &mut [u8], at: usize, nid: u64, k: usize, a: u64, name: &[u8]) -> usize
-    ensures { Put out.old at (row_text nid (kind_word k) (a ∷ []) true name.now) out.new result }
-{
-    let number = put_head(out, at, nid, k, a);
-    let space = text::put_byte(out, number, 32);
-    let named = text::put_bytes(out, space, name);
-    text::put_byte(out, named, 10)
-}
-
-// What stands in front of a name: few lines have one, so that it is put by way of an array, with no test of room. Why it does not call
-// `head_in`, docs/DECISIONS.md says.
-fn put_head(out: &mut [u8], at: usize, nid: u64, k: usize, a: u64) -> usize
-    ensures { Put out.old at (decimal_text nid ++ spaced (kind_word k) ++ decimal_text a) out.new result }
-{
-    let mut head = [0u8; 112];
-    let p = put_in(&mut head, 0, nid);
-    let q = put_word_in(&mut head, p, k);
-    let n = put_in(&mut head, q, a);
-    text::put_bytes(out, at, &head[..n])
-}
-
-// An output of this length has room for the longest row at a place.
-fn has_room(end: usize, at: usize) -> bool
-    ensures { result ≡ true → at + 112 ≤ end }
-{
-    if end <= at {
-        return false;
-    }
-    LONGEST <= end - at
-}
-
-// A row where there is room.
-fn row_in(
+pub fn put_named(
     out: &mut [u8],
     at: usize,
     nid: u64,
-    k: usize,
-    sort: u64,
-    count: usize,
-    a: u64,
-    b: u64,
-    c: u64,
+    word: &[u8],
+    number: u64,
+    name: &[u8],
 ) -> usize
-    requires { at + 112 ≤ length out.old }
-    ensures { Put out.old at (row_text nid (kind_word k) (sort ∷ take count (a ∷ b ∷ c ∷ [])) false []) out.new result × (result ≤ at + 112) }
+    ensures { Put out.old at (row_text nid word.now (number ∷ []) true name.now) out.new result }
 {
-    let head = head_in(out, at, nid, k, sort);
-    if count == 0 {
-        return end_in(out, head);
-    }
-    let first = spaced_in(out, head, a);
-    if count == 1 {
-        return end_in(out, first);
-    }
-    let second = spaced_in(out, first, b);
-    if count == 2 {
-        return end_in(out, second);
-    }
-    let third = spaced_in(out, second, c);
-    end_in(out, third)
+    let head = put_head(out, at, nid, word, number);
+    let space = text::put_byte(out, head, b' ');
+    let named = text::put_bytes(out, space, name);
+    text::put_byte(out, named, b'\n')
 }
 
-// An identifier, a word and the first number: most are sorts of one digit.
-fn head_in(out: &mut [u8], at: usize, nid: u64, k: usize, a: u64) -> usize
-    requires { at + 48 ≤ length out.old }
-    ensures { Put out.old at (decimal_text nid ++ spaced (kind_word k) ++ decimal_text a) out.new result × (result ≤ at + 48) }
+// A row with no name, piece by piece.
+#[cold]
+#[inline(never)]
+fn put_pieces(out: &mut [u8], at: usize, nid: u64, word: &[u8], sort: u64, numbers: &[u64]) -> usize
+    ensures { Put out.old at (row_text nid word.now (sort ∷ numbers.now) false []) out.new result }
 {
-    let p = put_in(out, at, nid);
-    let q = put_word_in(out, p, k);
-    if a < 10 {
-        out[q] = 48 + a as u8;
-        return q + 1;
+    let mut p = put_head(out, at, nid, word, sort);
+    for x in numbers {
+        p = put_spaced(out, p, *x);
     }
-    put_in(out, q, a)
+    text::put_byte(out, p, b'\n')
+}
+
+// An identifier, a word and a number.
+fn put_head(out: &mut [u8], at: usize, nid: u64, word: &[u8], number: u64) -> usize
+    ensures { Put out.old at (decimal_text nid ++ (32 ∷ word.now) ++ (32 ∷ decimal_text number)) out.new result }
+{
+    let p = put_number(out, at, nid);
+    let space = text::put_byte(out, p, b' ');
+    let q = text::put_bytes(out, space, word);
+    put_spaced(out, q, number)
 }
 
 // A space and a number.
+fn put_spaced(out: &mut [u8], at: usize, x: u64) -> usize
+    ensures { Put out.old at (32 ∷ decimal_text x) out.new result }
+{
+    let p = text::put_byte(out, at, b' ');
+    put_number(out, p, x)
+}
+
+// A digit, or a number by way of an array that has room for the longest, where no byte is tested.
+fn put_number(out: &mut [u8], at: usize, x: u64) -> usize
+    ensures { Put out.old at (decimal_text x) out.new result }
+{
+    if x < 10 {
+        return text::put_byte(out, at, b'0' + x as u8);
+    }
+    let mut digits = [0u8; NUMBER];
+    let n = put_in(&mut digits, 0, x);
+    text::put_bytes(out, at, &digits[..n])
+}
+
+// An output of `end` bytes has room at a place for the longest row of a word and numbers of these lengths.
+#[inline(always)]
+fn has_room(end: usize, at: usize, word: usize, numbers: usize) -> bool
+    requires { end < 2 ^ 63 }
+    ensures { result ≡ true → at + (43 + word + 21 * numbers) ≤ end }
+{
+    let longest = numbers
+        .saturating_mul(SPACED)
+        .saturating_add(word)
+        .saturating_add(NUMBER + SPACED + 2);
+    longest <= end.saturating_sub(at)
+}
+
+// A row where there is room.
+#[inline(always)]
+fn row_in(out: &mut [u8], at: usize, nid: u64, word: &[u8], sort: u64, numbers: &[u64]) -> usize
+    requires { at + (43 + length word.now + 21 * length numbers.now) ≤ length out.old }
+    ensures { Put out.old at (row_text nid word.now (sort ∷ numbers.now) false []) out.new result }
+{
+    let head = head_in(out, at, nid, word, sort);
+    let end = numbers_in(out, head, numbers);
+    out[end] = b'\n';
+    end + 1
+}
+
+// An identifier, a word and the first number: most are sorts of one digit.
+#[inline(always)]
+fn head_in(out: &mut [u8], at: usize, nid: u64, word: &[u8], sort: u64) -> usize
+    requires { at + (42 + length word.now) ≤ length out.old }
+    ensures { Put out.old at (decimal_text nid ++ (32 ∷ word.now) ++ (32 ∷ decimal_text sort)) out.new result × (result ≤ at + (42 + length word.now)) }
+{
+    let space = put_in(out, at, nid);
+    out[space] = b' ';
+    let end = bytes_in(out, space + 1, word);
+    if sort < 10 {
+        return digit_in(out, end, sort);
+    }
+    spaced_in(out, end, sort)
+}
+
+// Byte by byte: with `copy_from_slice` the compiler tests whether the two parts overlap, which was tried and gives longer code.
+#[inline(always)]
+fn bytes_in(out: &mut [u8], at: usize, bytes: &[u8]) -> usize
+    requires { at + length bytes.now ≤ length out.old }
+    ensures { Put out.old at bytes.now out.new result × (result ≤ at + length bytes.now) }
+{
+    let mut p = at;
+    for b in bytes {
+        out[p] = *b;
+        p += 1;
+    }
+    p
+}
+
+// Numbers, with a space before each.
+#[inline(always)]
+fn numbers_in(out: &mut [u8], at: usize, numbers: &[u64]) -> usize
+    requires { at + 21 * length numbers.now ≤ length out.old }
+    ensures { Put out.old at (numbers_text numbers.now) out.new result × (result ≤ at + 21 * length numbers.now) }
+{
+    let mut p = at;
+    for x in numbers {
+        p = spaced_in(out, p, *x);
+    }
+    p
+}
+
+// A space and a number.
+#[inline(always)]
 fn spaced_in(out: &mut [u8], at: usize, x: u64) -> usize
     requires { at + 21 ≤ length out.old }
     ensures { Put out.old at (32 ∷ decimal_text x) out.new result × (result ≤ at + 21) }
@@ -125,11 +172,13 @@ fn spaced_in(out: &mut [u8], at: usize, x: u64) -> usize
     put_in(out, at + 1, x)
 }
 
-// A newline.
-fn end_in(out: &mut [u8], at: usize) -> usize
-    requires { at + 1 ≤ length out.old }
-    ensures { Put out.old at (10 ∷ []) out.new result × (result ≤ at + 1) }
+// A space and a digit.
+#[inline(always)]
+fn digit_in(out: &mut [u8], at: usize, d: u64) -> usize
+    requires { (d < 10) × (at + 2 ≤ length out.old) }
+    ensures { Put out.old at (32 ∷ decimal_text d) out.new result × (result ≤ at + 2) }
 {
-    out[at] = 10;
-    at + 1
+    out[at] = b' ';
+    out[at + 1] = b'0' + d as u8;
+    at + 2
 }

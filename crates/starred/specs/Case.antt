@@ -9,7 +9,7 @@ use Rattle.list_check.specs.Lines.{ops}
 use Rattle.edges.specs.Edges.{edge_stride, dispatch_stride}
 use Rattle.riscv.specs.declared.Instruction.{Instruction}
 use Rattle.riscv.specs.Kind as K
-use Rattle.riscv.specs.Kind.{Kind}
+use Rattle.riscv.specs.declared.Kind.{Kind}
 use Rattle.lowering.specs.Lowering.{Answer, lowering}
 use Rattle.listing_start.specs.Start.{placed, start_state}
 use Rattle.listing_bytes.specs.Storage.{start_lent}

@@ -4,7 +4,7 @@ use Rattle.std.specs.Prelude.{◌+◌, ◌-◌, ◌^◌, ◌≡◌, cond, List, 
 use Rattle.btor2.specs.declared.NodeType.TheVariants.{Bit, Word}
 use Rattle.btor2.specs.Op.{const, bin, sdiv, ult, not, bad}
 use Rattle.edges.specs.Edges.{edge, no_condition}
-use Rattle.riscv.specs.Kind.{Lui, Auipc, Lh, Addi, Slli, Srliw, Div, Divw, Bgeu, Jal, Jalr}
+use Rattle.riscv.specs.declared.Kind.TheVariants.{Lui, Auipc, Lh, Addi, Slli, Srliw, Div, Divw, Bgeu, Jal, Jalr}
 use Rattle.starred.specs.Case.{AskedCase, asked, states, Finding, refusal, lines, line, value, edges, dispatches, bads, answered}
 
 unfoldable pub cases : List (AskedCase × List Finding)

@@ -8,7 +8,8 @@
 
 use btor2::NodeRef;
 use builder::Tally;
-use cases::{Step, read_counts, read_decimal, read_full, read_record, read_role};
+use cases::{Commands, Placed, read_full};
+use refusals::number_or_zero;
 use state::{Counts, ROLES, State};
 use std::io;
 
@@ -16,19 +17,14 @@ fn main(rt: HostRuntime) -> io::Result<()> {
     let mut buffer = [0u8; 262144];
     let n = read_full(&mut rt.stdin(), &mut buffer)?;
     let mut list = [0u64; 500];
-    run(&rt, &buffer[..n], &mut list)
-}
-
-fn run(rt: &impl Print, text: &[u8], list: &mut [u64]) -> io::Result<()> {
     let mut state = empty();
-    let mut at = 0;
-    while at < text.len() {
-        let step = run_line(rt, text, at, list, state)?;
-        if step.next <= at {
-            return Ok(());
+    let mut commands = Commands::new(&buffer[..n]);
+    // Each command takes a byte at least.
+    for _ in 0..n {
+        if commands.is_empty() {
+            break;
         }
-        at = step.next;
-        state = step.state;
+        state = run_command(&rt, &mut commands, &mut list, state)?;
     }
     Ok(())
 }
@@ -46,79 +42,55 @@ fn empty() -> State {
     }
 }
 
-// One command.
-fn run_line(
+// One command; the answer is the state after it.
+fn run_command(
     rt: &impl Print,
-    text: &[u8],
-    at: usize,
+    commands: &mut Commands,
     list: &mut [u64],
     state: State,
-) -> io::Result<Step> {
-    let command = read_decimal(text, at);
-    let from = command.next;
-    let which = command.value;
-    if which == 1 {
-        let next = run_put(text, from, list);
-        return Ok(Step { state, next });
+) -> io::Result<State> {
+    match commands.number() {
+        1 => {
+            let Placed { place, line } = commands.record();
+            btor2_list::put(list, place, line);
+            Ok(state)
+        }
+        2 => Ok(commands.counts(state)),
+        3 => Ok(commands.role(state)),
+        _ => {
+            show_checked(rt, commands, list, state)?;
+            Ok(state)
+        }
     }
-    if which == 2 {
-        return Ok(read_counts(text, from, state));
-    }
-    if which == 3 {
-        return Ok(read_role(text, from, state));
-    }
-    let next = run_check(rt, text, from, list, state)?;
-    Ok(Step { state, next })
 }
 
-fn run_put(text: &[u8], at: usize, list: &mut [u64]) -> usize {
-    let read = read_record(text, at);
-    btor2_list::put(list, read.place, read.line);
-    read.next
-}
-
-fn run_check(
+fn show_checked(
     rt: &impl Print,
-    text: &[u8],
-    at: usize,
+    commands: &mut Commands,
     list: &[u64],
     state: State,
-) -> io::Result<usize> {
-    let words = read_decimal(text, at);
-    let host = read_decimal(text, words.next);
-    let names = read_decimal(text, host.next);
-    let edges = read_decimal(text, names.next);
-    let dispatches = read_decimal(text, edges.next);
-    let bads = read_decimal(text, dispatches.next);
+) -> io::Result<()> {
+    let words = commands.number();
+    let host = commands.number();
+    let names = commands.number();
+    let edges = commands.number();
+    let dispatches = commands.number();
+    let bads = commands.number();
     let bytes = [0u8; 64];
     let numbers = [0u64; 64];
-    let refusal = start::check_start(
-        first_words(list, words.value),
-        first_bytes(&bytes, host.value),
-        first_bytes(&bytes, names.value),
-        first_words(&numbers, edges.value),
-        first_words(&numbers, dispatches.value),
-        first_words(&numbers, bads.value),
+    let checked = start::check_start(
+        first(list, words),
+        first(&bytes, host),
+        first(&bytes, names),
+        first(&numbers, edges),
+        first(&numbers, dispatches),
+        first(&numbers, bads),
         state,
     );
-    rt.print(refusal)?;
-    rt.write_all(b"\n")?;
-    Ok(bads.next)
+    println!(rt; "{}", number_or_zero(checked))
 }
 
 // As many as are asked for, or all that there are.
-fn first_words(s: &[u64], n: u64) -> &[u64] {
-    let e = n as usize;
-    if s.len() < e {
-        return s;
-    }
-    &s[0..e]
-}
-
-fn first_bytes(s: &[u8], n: u64) -> &[u8] {
-    let e = n as usize;
-    if s.len() < e {
-        return s;
-    }
-    &s[0..e]
+fn first<T>(s: &[T], n: u64) -> &[T] {
+    s.get(..n as usize).unwrap_or(s)
 }

@@ -1,9 +1,9 @@
 -- The sort of a role by tests of its place. Assumes nothing.
-use Prim.Native.Nat.{ℕ}
+use Prim.Native.Nat.{ℕ, ◌<◌, ◌≤◌}
 use mathlib.Core.Path.{◌≡◌, ap, ◌∙◌}
 use mathlib.Core.Bool.{Bool, cond}
 use native.Mathlib.Omega.{arith}
-use borrow.Author.Tests.{le-ltb, eq-eqb}
+use borrow.Author.Tests.{le-ltb, lt-ltb, eq-eqb}
 use lib.Dec.{ltb, eqb, eqb→eq}
 use lib.ListN.{get_or-eq_default}
 use Rattle.bitvec.proofs.Base.{by_le}
@@ -31,3 +31,16 @@ number_by i =
 
 pub sort_by_lem : (i : ℕ) → role_sort i ≡ sort_by i
 sort_by_lem i = same_sort_lem (role_sort i) (sort_by i) (rw (eq-eqb _ _ (number_by i)) tt)
+
+-- what each of the later tests tells
+pub registers_lem : (i : ℕ) → maximum_node ≤ i → i < memory_flow → Word ≡ role_sort i
+registers_lem i h l = rw (sort_by_lem i, le-ltb i zero_word (omega arith), le-ltb i memory_node (omega arith), le-ltb i maximum_node (omega arith), lt-ltb i memory_flow l)
+
+pub memories_lem : (i : ℕ) → memory_flow ≤ i → i < maximum_flow → Memory ≡ role_sort i
+memories_lem i h l = rw (sort_by_lem i, le-ltb i zero_word (omega arith), le-ltb i memory_node (omega arith), le-ltb i maximum_node (omega arith), le-ltb i memory_flow h, lt-ltb i maximum_flow l)
+
+pub words_lem : (i : ℕ) → maximum_flow ≤ i → i < addition_flow → Word ≡ role_sort i
+words_lem i h l = rw (sort_by_lem i, le-ltb i zero_word (omega arith), le-ltb i memory_node (omega arith), le-ltb i maximum_node (omega arith), le-ltb i memory_flow (omega arith), le-ltb i maximum_flow h, lt-ltb i addition_flow l)
+
+pub bits_lem : (i : ℕ) → addition_flow ≤ i → Bit ≡ role_sort i
+bits_lem i h = rw (sort_by_lem i, le-ltb i zero_word (omega arith), le-ltb i memory_node (omega arith), le-ltb i maximum_node (omega arith), le-ltb i memory_flow (omega arith), le-ltb i maximum_flow (omega arith), le-ltb i addition_flow h)

@@ -1,4 +1,5 @@
 -- The sort that a record says. Assumes nothing.
+use Rattle.std.specs.Prelude.{Some}
 use Prim.Native.Nat.{ℕ, zero, suc, ◌≤◌}
 use mathlib.Core.Path.{◌≡◌, refl, sym, ap, subst, ◌∙◌}
 use mathlib.Core.Bool.{Bool, true, false, cond, not}
@@ -7,7 +8,6 @@ use lib.Dec.{T, eqb}
 use borrow.Author.Tests.{eq-eqb, eqb-true}
 use Rattle.btor2.specs.declared.NodeType.{NodeType}
 use Rattle.btor2.specs.declared.NodeType.TheVariants.{Bit, Word, Memory}
-use Rattle.btor2.specs.declared.MaybeSort.TheVariants.{Sort}
 use Rattle.btor2.specs.Op.{state, state_init, carried}
 use Rattle.btor2_list.specs.declared.Line.{Line}
 use Rattle.btor2_list.specs.Node.{op_of, node_of}
@@ -34,7 +34,7 @@ module _ (l : Line) where
   unfolding op_of carried
   ite_says = says 14 (λ k e. rw (k, e)) (λ k e. rw (k, e)) (λ k e. rw (k, e))
 
-  either : (t : NodeType) (b : Bool) → carried {A = ℕ} (cond b (state t l.name) (state_init t l.op1.0 l.name)) ≡ Sort t
+  either : (t : NodeType) (b : Bool) → carried {A = ℕ} (cond b (state t l.name) (state_init t l.op1.0 l.name)) ≡ Some t
   unfolding carried
   either t true = refl
   either t false = refl

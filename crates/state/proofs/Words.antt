@@ -53,10 +53,6 @@ pub role_at : (ws : List ℕ) (j : ℕ) → j < role_count → role (roles_in ws
 unfolding roles_in
 role_at ws j h = places_at role_count (drop first_role ws) j h ∙ ap ref (get_or-drop first_role ws j 0)
 
--- of a role that was found to be j
-pub role_by : (ws : List ℕ) (k j : ℕ) → k ≡ j → k < role_count → role (roles_in ws) j ≡ ref (get_or ws (first_role + k) 0)
-role_by ws k j e h = ap (role (roles_in ws)) (sym e) ∙ role_at ws k h
-
 pub size_in : (ws : List ℕ) → length (roles_in ws) ≡ role_count
 unfolding roles_in
 size_in ws = places_size role_count (drop first_role ws)

@@ -6,9 +6,6 @@ use crate::Counts;
 use btor2_list::tally_out;
 use builder::Tally;
 
-// The number of a count above its storage.
-pub const BAD_COUNT: u64 = 9;
-
 // How much lent storage holds, or an instruction needs: lines, bytes of our name area, in-edges, dispatches, bads.
 #[derive(Clone, Copy)]
 pub struct Room {
@@ -20,12 +17,12 @@ pub struct Room {
 }
 
 // How much lent storage of these lengths holds.
+#[tactic(auto, unfolding(crate::specs::Room::room_of))]
 pub fn room_of(list: usize, names: usize, edges: usize, dispatches: usize, bads: usize) -> Room
     ensures { result ≡ room_of list names edges dispatches bads }
 {
-    let lines = btor2_list::capacity(list);
     Room {
-        lines,
+        lines: btor2_list::capacity(list),
         names,
         edges: edges / edges::EDGE,
         dispatches: dispatches / edges::DISPATCH,
@@ -38,6 +35,8 @@ pub fn counts_out(most: u64, room: Room, t: Tally, c: Counts) -> bool
     ensures { result ≡ counts_out most room t c }
 {
     tally_out(most, room.lines, t.lines, t.nid)
-        | ((room.names < c.names)
-            | ((room.edges < c.edges) | ((room.dispatches < c.dispatches) | (room.bads < c.bads))))
+        || room.names < c.names
+        || room.edges < c.edges
+        || room.dispatches < c.dispatches
+        || room.bads < c.bads
 }

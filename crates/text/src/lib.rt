@@ -1,51 +1,32 @@
 // Pieces of text put into an output. Each is total: what lies past the output's end is not stored, and the place after the piece is answered
-// all the same, capped at the largest number.
+// all the same, capped at the largest number. An output and a place are no struct: a place stays in a register, and a struct that is lent would not.
 #![tactic(auto)]
 
-ghost use Rattle.std.specs.Prelude.{◌≡◌, [], ◌∷◌, ◌+◌, ◌-◌, ◌^◌, ◌<◌, ◌≤◌, min, length};
+ghost use Rattle.std.specs.Prelude.{◌≡◌, [], ◌∷◌, ◌+◌, ◌-◌, ◌<◌, ◌≤◌, length};
 ghost use Rattle.text.specs.Numeral.{glyph, numeral, decimal_text, hex_text};
 ghost use Rattle.text.specs.Put.{Put};
 ghost use Rattle.text.specs.BadName.{bad_name};
-
-// The largest place: past every slice.
-const LAST: usize = 18446744073709551615;
 
 pub fn put_byte(out: &mut [u8], at: usize, b: u8) -> usize
     ensures { Put out.old at (b ∷ []) out.new result }
 {
     if at < out.len() {
         out[at] = b;
-        return at + 1;
     }
-    if at == LAST {
-        return LAST;
-    }
-    at + 1
+    at.saturating_add(1)
 }
 
 pub fn put_bytes(out: &mut [u8], at: usize, s: &[u8]) -> usize
     ensures { Put out.old at s.now out.new result }
 {
     if out.len() <= at {
-        return place_after(at, s.len());
+        return at.saturating_add(s.len());
     }
     let mut p = at;
-    let mut i = 0;
-    while i < s.len() {
-        p = put_byte(out, p, s[i]);
-        i += 1;
+    for b in s {
+        p = put_byte(out, p, *b);
     }
     p
-}
-
-// The place n after another, capped at the largest.
-fn place_after(at: usize, n: usize) -> usize
-    ensures { result ≡ min (at + n) (2 ^ 64 - 1) }
-{
-    if LAST - at < n {
-        return LAST;
-    }
-    at + n
 }
 
 // A digit in ASCII.
@@ -53,7 +34,11 @@ fn digit(d: u64) -> u8
     requires { d < 16 }
     ensures { result ≡ glyph d }
 {
-    if d < 10 { 48 + d as u8 } else { 87 + d as u8 }
+    if d < 10 {
+        b'0' + d as u8
+    } else {
+        b'a' + (d as u8 - 10)
+    }
 }
 
 // x in the base, at most k digits.

@@ -1,7 +1,7 @@
 -- What only the contracts of private functions cite: a kind's lines are those of its shape, under an operator or a number of its own.
 use Rattle.std.specs.Prelude.{ℕ, ◌≡◌}
 use Rattle.riscv.specs.declared.Zeros.{Zeros}
-use Rattle.riscv.specs.Kind.{Kind}
+use Rattle.riscv.specs.declared.Kind.{Kind}
 use Rattle.builder.specs.Prog.{Prog}
 use Rattle.btor2_list.specs.Operator.{bin_from}
 use Rattle.builder_ops.specs.Operator.{operator_of}

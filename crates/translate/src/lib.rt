@@ -3,22 +3,21 @@
 #![tactic(auto)]
 
 ghost use Rattle.riscv.specs.Kind.{kind_at};
-ghost use Rattle.models.specs.Model.{reg_flow_ite, memory_flow_ite, settle, unimplemented, translate};
+ghost use Rattle.std.specs.Prelude.{ℕ};
+ghost use Rattle.models.specs.Model.{settle, translate};
+ghost use Rattle.models.specs.Places as P;
 ghost use Rattle.models.specs.Code.{operands_of, flows_of, outcome_of, modeled_of};
-ghost use Rattle.builder.specs.Gives.{Gives};
+ghost use Rattle.builder.specs.Builds.{Builds};
 ghost use Rattle.translate.specs.Shape.{shaped, Has};
 
 use btor2::{Name, NodeRef, NodeType};
 use btor2_list::Bin;
-use builder::{Tally, new_bad, new_ite};
+use builder::Builder;
 use builder_ops::Operator;
-use models::{Flows, Modeled, Operands, Outcome};
-use riscv::{
-    ADD, ADDI, ADDIW, ADDW, AND, ANDI, AUIPC, BEQ, BGE, BGEU, BLT, BLTU, BNE, DIV, DIVU, DIVW,
-    ECALL, JAL, JALR, LB, LBU, LD, LH, LHU, LUI, LW, MUL, MULW, OR, ORI, REMU, SB, SD, SH, SLL,
-    SLLI, SLLIW, SLLW, SLTIU, SLTU, SRA, SRAI, SRAIW, SRL, SRLI, SRLIW, SUB, SUBW, SW, XORI, Zeros,
-};
+use models::{Flows, Immediate, Modeled, Operands, Outcome};
+use riscv::Kind;
 use riscv_rows::{class_of, has_bad};
+use state::Reads;
 
 // The shapes that a kind's lines have, each with what its kinds differ in: an operator, or for a load how many bits of a word are above those
 // that are loaded and whether these are signed, or for a store ones at the bits that are stored.
@@ -26,9 +25,9 @@ use riscv_rows::{class_of, has_bad};
 enum Shape {
     Constant,
     Link,
-    Load(u64, bool),
+    Load { spare: u64, signed: bool },
     Ld,
-    Store(u64),
+    Store { ones: u64 },
     Sd,
     Addi,
     Addiw,
@@ -51,231 +50,139 @@ enum Shape {
     Ecall,
 }
 
-// The shape of a kind's lines. What is no other kind is Ecall.
-fn shape_of(kind: u64) -> Shape
-    ensures { Has (kind_at kind) result }
+// The shape of a kind's lines.
+fn shape_of(kind: Kind) -> Shape
+    ensures { Has kind result }
 {
     match kind {
-        LUI => Shape::Constant,
-        AUIPC => Shape::Constant,
-        LB => Shape::Load(56, true),
-        LH => Shape::Load(48, true),
-        LW => Shape::Load(32, true),
-        LD => Shape::Ld,
-        LBU => Shape::Load(56, false),
-        LHU => Shape::Load(48, false),
-        SB => Shape::Store(0xff),
-        SH => Shape::Store(0xffff),
-        SW => Shape::Store(0xffff_ffff),
-        SD => Shape::Sd,
-        ADDI => Shape::Addi,
-        SLTIU => Shape::Sltiu,
-        XORI => Shape::WithConstant(Operator::Xor),
-        ORI => Shape::WithConstant(Operator::Or),
-        ANDI => Shape::WithConstant(Operator::And),
-        SLLI => Shape::WithConstant(Operator::Sll),
-        SRLI => Shape::WithConstant(Operator::Srl),
-        SRAI => Shape::WithConstant(Operator::Sra),
-        ADDIW => Shape::Addiw,
-        SLLIW => Shape::Slliw,
-        SRLIW => Shape::ShiftedBack(Operator::Srl),
-        SRAIW => Shape::ShiftedBack(Operator::Sra),
-        ADD => Shape::Summed(Bin::Add),
-        SUB => Shape::Summed(Bin::Sub),
-        SLL => Shape::Shifted(Operator::Sll),
-        SLTU => Shape::Sltu,
-        SRL => Shape::Shifted(Operator::Srl),
-        SRA => Shape::Shifted(Operator::Sra),
-        OR => Shape::WithRegister(Operator::Or),
-        AND => Shape::WithRegister(Operator::And),
-        MUL => Shape::Mul,
-        DIV => Shape::Divided(Bin::Div),
-        DIVU => Shape::Divided(Bin::Divu),
-        REMU => Shape::Remu,
-        ADDW => Shape::SummedWord(Bin::Add),
-        DIVW => Shape::Divw,
-        SUBW => Shape::SummedWord(Bin::Sub),
-        SLLW => Shape::Sllw,
-        MULW => Shape::Mulw,
-        BEQ => Shape::Branch(Operator::Eq),
-        BNE => Shape::Branch(Operator::Neq),
-        BLT => Shape::Branch(Operator::Slt),
-        BGE => Shape::Branch(Operator::Sgte),
-        BLTU => Shape::Branch(Operator::Ult),
-        BGEU => Shape::Branch(Operator::Ugte),
-        JAL => Shape::Link,
-        JALR => Shape::Link,
-        ECALL => Shape::Ecall,
-        _ => Shape::Ecall,
+        Kind::Lui | Kind::Auipc => Shape::Constant,
+        Kind::Lb => Shape::Load {
+            spare: 56,
+            signed: true,
+        },
+        Kind::Lh => Shape::Load {
+            spare: 48,
+            signed: true,
+        },
+        Kind::Lw => Shape::Load {
+            spare: 32,
+            signed: true,
+        },
+        Kind::Ld => Shape::Ld,
+        Kind::Lbu => Shape::Load {
+            spare: 56,
+            signed: false,
+        },
+        Kind::Lhu => Shape::Load {
+            spare: 48,
+            signed: false,
+        },
+        Kind::Sb => Shape::Store { ones: 0xff },
+        Kind::Sh => Shape::Store { ones: 0xffff },
+        Kind::Sw => Shape::Store { ones: 0xffff_ffff },
+        Kind::Sd => Shape::Sd,
+        Kind::Addi => Shape::Addi,
+        Kind::Sltiu => Shape::Sltiu,
+        Kind::Xori => Shape::WithConstant(Operator::Xor),
+        Kind::Ori => Shape::WithConstant(Operator::Or),
+        Kind::Andi => Shape::WithConstant(Operator::And),
+        Kind::Slli => Shape::WithConstant(Operator::Sll),
+        Kind::Srli => Shape::WithConstant(Operator::Srl),
+        Kind::Srai => Shape::WithConstant(Operator::Sra),
+        Kind::Addiw => Shape::Addiw,
+        Kind::Slliw => Shape::Slliw,
+        Kind::Srliw => Shape::ShiftedBack(Operator::Srl),
+        Kind::Sraiw => Shape::ShiftedBack(Operator::Sra),
+        Kind::Add => Shape::Summed(Bin::Add),
+        Kind::Sub => Shape::Summed(Bin::Sub),
+        Kind::Sll => Shape::Shifted(Operator::Sll),
+        Kind::Sltu => Shape::Sltu,
+        Kind::Srl => Shape::Shifted(Operator::Srl),
+        Kind::Sra => Shape::Shifted(Operator::Sra),
+        Kind::Or => Shape::WithRegister(Operator::Or),
+        Kind::And => Shape::WithRegister(Operator::And),
+        Kind::Mul => Shape::Mul,
+        Kind::Div => Shape::Divided(Bin::Div),
+        Kind::Divu => Shape::Divided(Bin::Divu),
+        Kind::Remu => Shape::Remu,
+        Kind::Addw => Shape::SummedWord(Bin::Add),
+        Kind::Divw => Shape::Divw,
+        Kind::Subw => Shape::SummedWord(Bin::Sub),
+        Kind::Sllw => Shape::Sllw,
+        Kind::Mulw => Shape::Mulw,
+        Kind::Beq => Shape::Branch(Operator::Eq),
+        Kind::Bne => Shape::Branch(Operator::Neq),
+        Kind::Blt => Shape::Branch(Operator::Slt),
+        Kind::Bge => Shape::Branch(Operator::Sgte),
+        Kind::Bltu => Shape::Branch(Operator::Ult),
+        Kind::Bgeu => Shape::Branch(Operator::Ugte),
+        Kind::Jal | Kind::Jalr => Shape::Link,
+        Kind::Ecall => Shape::Ecall,
     }
 }
 
-// The lines of a shape. `imm` is the kind's constant.
-fn model_shape(
-    list: &mut [u64],
-    t: Tally,
-    e: Operands,
-    f: Flows,
-    imm: u64,
-    shape: Shape,
-    z: Zeros,
-) -> Modeled
-    ensures { Gives list.old t (shaped shape (operands_of e) (flows_of f) imm z) list.new result.tally (modeled_of result) }
+// The lines of a shape.
+fn model_shape(b: &mut Builder, e: Operands, f: &mut Flows, i: Immediate, shape: Shape) -> Outcome
+    ensures { Builds b.old (shaped shape (operands_of e) (flows_of f.old) i.imm i.zeros) b.new (P.gives (flows_of f.new) (outcome_of result)) }
 {
     match shape {
-        Shape::Constant => models_immediate::constant(list, t, f, imm),
-        Shape::Link => models_immediate::link(list, t, f, imm, z.rd),
-        Shape::Load(spare, signed) => {
-            models_memory::load(list, t, e, f, z.imm, imm, spare, signed)
-        }
-        Shape::Ld => models_memory::model_ld(list, t, e, f, z.imm, imm),
-        Shape::Store(ones) => models_memory::store(list, t, e, f, z.imm, imm, ones),
-        Shape::Sd => models_memory::model_sd(list, t, e, f, z.imm, imm),
-        Shape::Addi => models_immediate::model_addi(list, t, e, f, imm, z),
-        Shape::Addiw => models_immediate::model_addiw(list, t, e, f, imm),
-        Shape::Sltiu => models_immediate::model_sltiu(list, t, e, f, imm),
-        Shape::Slliw => models_immediate::model_slliw(list, t, e, f, imm),
-        Shape::WithConstant(o) => models_immediate::with_constant(list, t, o, e, f, imm),
-        Shape::ShiftedBack(o) => models_immediate::shifted_back(list, t, o, e, f, imm),
-        Shape::Summed(o) => models_register::summed(list, t, o, e, f),
-        Shape::SummedWord(o) => models_register::summed_word(list, t, o, e, f),
-        Shape::Shifted(o) => models_register::shifted(list, t, o, e, f),
-        Shape::Sltu => models_register::model_sltu(list, t, e, f),
-        Shape::Sllw => models_register::model_sllw(list, t, e, f),
-        Shape::WithRegister(o) => models_register::with_register(list, t, o, e, f),
-        Shape::Mul => models_register::model_mul(list, t, e, f),
-        Shape::Mulw => models_register::model_mulw(list, t, e, f),
-        Shape::Divided(o) => models_register::divided(list, t, o, e, f),
-        Shape::Divw => models_register::model_divw(list, t, e, f),
-        Shape::Remu => models_register::model_remu(list, t, e, f),
-        Shape::Branch(o) => models_register::model_branch(list, t, o, e, f),
-        Shape::Ecall => models_register::model_ecall(list, t, e, f),
+        Shape::Constant => models_immediate::constant(b, i.imm),
+        Shape::Link => models_immediate::link(b, i),
+        Shape::Load { spare, signed } => models_memory::load(b, e, f, i, spare, signed),
+        Shape::Ld => models_memory::model_ld(b, e, f, i),
+        Shape::Store { ones } => models_memory::store(b, e, f, i, ones),
+        Shape::Sd => models_memory::model_sd(b, e, f, i),
+        Shape::Addi => models_immediate::model_addi(b, e, f, i),
+        Shape::Addiw => models_immediate::model_addiw(b, e, i.imm),
+        Shape::Sltiu => models_immediate::model_sltiu(b, e, i.imm),
+        Shape::Slliw => models_immediate::model_slliw(b, e, i.imm),
+        Shape::WithConstant(o) => models_immediate::with_constant(b, o, e, i.imm),
+        Shape::ShiftedBack(o) => models_immediate::shifted_back(b, o, e, i.imm),
+        Shape::Summed(o) => models_register::summed(b, o, e, f),
+        Shape::SummedWord(o) => models_register::summed_word(b, o, e, f),
+        Shape::Shifted(o) => models_register::shifted(b, o, e),
+        Shape::Sltu => models_register::model_sltu(b, e),
+        Shape::Sllw => models_register::model_sllw(b, e),
+        Shape::WithRegister(o) => models_register::with_register(b, o, e),
+        Shape::Mul => models_register::model_mul(b, e, f),
+        Shape::Mulw => models_register::model_mulw(b, e, f),
+        Shape::Divided(o) => models_register::divided(b, o, e, f),
+        Shape::Divw => models_register::model_divw(b, e),
+        Shape::Remu => models_register::model_remu(b, e, f),
+        Shape::Branch(o) => models_register::model_branch(b, o, e),
+        Shape::Ecall => models_register::model_ecall(b, e, f),
     }
 }
 
-// The line of the flow that a model's outcome is for.
-fn settle_flow(
-    list: &mut [u64],
-    t: Tally,
-    flag: NodeRef,
-    register_flow: NodeRef,
-    memory_flow: NodeRef,
-    f: Flows,
-    outcome: Outcome,
-) -> Modeled
-    ensures { Gives list.old t (settle flag.0 register_flow.0 memory_flow.0 (flows_of f) (outcome_of outcome)) list.new result.tally (modeled_of result) }
+// The line of the flow that a model's outcome is for: what comes out is where the flow is now.
+fn settle_flow(b: &mut Builder, reads: Reads, outcome: Outcome) -> Outcome
+    ensures { (f : P.Flows ℕ) → Builds b.old (settle reads.operands.flag.0 reads.register.0 reads.memory.0 f (outcome_of outcome)) b.new (P.gives f (outcome_of result)) }
 {
+    let flag = reads.operands.flag;
     match outcome {
-        Outcome::Nothing => Modeled {
-            tally: t,
-            flows: f,
-            outcome: Outcome::Nothing,
-        },
-        Outcome::Register(x) => reg_flow_ite(list, t, flag, register_flow, f, x),
-        Outcome::Memory(x) => memory_flow_ite(list, t, flag, memory_flow, f, x),
-        Outcome::Branch(x, y) => Modeled {
-            tally: t,
-            flows: f,
-            outcome: Outcome::Branch(x, y),
-        },
+        Outcome::Register(x) => {
+            Outcome::Register(b.new_ite(NodeType::Word, flag, x, reads.register))
+        }
+        Outcome::Memory(x) => Outcome::Memory(b.new_ite(NodeType::Memory, flag, x, reads.memory)),
+        Outcome::Nothing | Outcome::Branch(_, _) => outcome,
     }
 }
 
-fn reg_flow_ite(
-    list: &mut [u64],
-    t: Tally,
-    flag: NodeRef,
-    old: NodeRef,
-    f: Flows,
-    x: NodeRef,
-) -> Modeled
-    ensures { Gives list.old t (reg_flow_ite flag.0 old.0 (flows_of f) x.0) list.new result.tally (modeled_of result) }
-{
-    let n = new_ite(list, t, NodeType::Word, flag, x, old);
-    let tally = n.tally;
-    let node = n.node;
-    Modeled {
-        tally,
-        flows: f,
-        outcome: Outcome::Register(node),
-    }
-}
-
-fn memory_flow_ite(
-    list: &mut [u64],
-    t: Tally,
-    flag: NodeRef,
-    old: NodeRef,
-    f: Flows,
-    x: NodeRef,
-) -> Modeled
-    ensures { Gives list.old t (memory_flow_ite flag.0 old.0 (flows_of f) x.0) list.new result.tally (modeled_of result) }
-{
-    let n = new_ite(list, t, NodeType::Memory, flag, x, old);
-    let tally = n.tally;
-    let node = n.node;
-    Modeled {
-        tally,
-        flows: f,
-        outcome: Outcome::Memory(node),
-    }
-}
-
-// Jalr under x0: a bad line after the others.
-fn model_unimplemented(
-    list: &mut [u64],
-    bad: bool,
-    flag: NodeRef,
-    name: Name,
-    m: Modeled,
-) -> Modeled
-    ensures { Gives list.old m.tally (unimplemented bad flag.0 name (modeled_of m)) list.new result.tally (modeled_of result) }
-{
-    if bad {
-        let t = m.tally;
-        let n = new_bad(list, t, flag, name);
-        let tally = n.tally;
-        let flows = m.flows;
-        let outcome = m.outcome;
-        return Modeled {
-            tally,
-            flows,
-            outcome,
-        };
-    }
-    m
-}
-
-// All that an instruction appends.
+// All that an instruction appends: its kind's lines, the line of its flow, and under x0 Jalr's bad line.
 pub fn translate_lines(
-    list: &mut [u64],
-    t: Tally,
-    e: Operands,
-    f: Flows,
-    register_flow: NodeRef,
-    memory_flow: NodeRef,
-    imm: u64,
+    b: &mut Builder,
+    reads: Reads,
+    i: Immediate,
     name: Name,
     kind: u64,
-    z: Zeros,
 ) -> Modeled
-    ensures { Gives list.old t (translate (operands_of e) (flows_of f) register_flow.0 memory_flow.0 imm name (kind_at kind) z) list.new result.tally (modeled_of result) }
+    ensures { Builds b.old (translate (operands_of reads.operands) (flows_of reads.flows) reads.register.0 reads.memory.0 i.imm name (kind_at kind) i.zeros) b.new (modeled_of result) }
 {
-    let shape = shape_of(kind);
-    let m = model_shape(list, t, e, f, imm, shape, z);
-    let tally = m.tally;
-    let flows = m.flows;
-    let outcome = m.outcome;
-    let n = settle_flow(
-        list,
-        tally,
-        e.flag,
-        register_flow,
-        memory_flow,
-        flows,
-        outcome,
-    );
-    let class = class_of(kind);
-    let bad = has_bad(class, z);
-    model_unimplemented(list, bad, e.flag, name, n)
+    let mut flows = reads.flows;
+    let modeled = model_shape(b, reads.operands, &mut flows, i, shape_of(Kind::at(kind)));
+    let outcome = settle_flow(b, reads, modeled);
+    if has_bad(class_of(kind), i.zeros) {
+        b.new_bad(reads.operands.flag, name);
+    }
+    Modeled { flows, outcome }
 }

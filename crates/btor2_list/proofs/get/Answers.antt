@@ -1,9 +1,8 @@
--- The test by division is that of the definition, and keeps the reads in bounds. Assumes nothing.
-use borrow.Author.Tests.{le-ltb, lt-ltb}
+-- The record that its words say. Assumes nothing.
+use Rattle.btor2_list.proofs.Words.{record_read}
 use Rattle.btor2_list.proofs.get.Goals as goal
 
-pub returns-then-list-p : goal.returns-then-list-p
-returns-then-list-p c = simp (le-ltb _ _ c.if-list-p.true)
-
 pub returns : goal.returns
-returns c = rw (lt-ltb _ _ c.if-list-p.false, ← c.fetch.ensures)
+returns c =
+    let h = c.in_ok-words.ensures in
+    rw (h.there, c.fetch.ensures, ← record_read _ _ _ h)

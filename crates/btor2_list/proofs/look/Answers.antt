@@ -1,26 +1,14 @@
--- A line that is there is read by its kind and its sort, which are the record's. Assumes nothing.
-use mathlib.Core.Path.{refl}
-use Prim.Native.Nat.{◌≤◌, ◌<◌}
+-- A line that is there is read by its first word. Assumes nothing.
+use mathlib.Core.Path.{◌≡◌, ap}
 use native.Mathlib.Omega.{arith}
-use Rattle.btor2_list.specs.Record.{record_at}
-use borrow.Author.Tests.{le-ltb, lt-ltb}
+use lib.ListN.{get_or}
+use Rattle.btor2_list.specs.Record.{word, record_at, nid_in, kind_in, sort_in}
 use Rattle.btor2_list.proofs.look.Goals as goal
 
-pub returns-then-lines-p : goal.returns-then-lines-p
-returns-then-lines-p c =
-    let a = c.args in
-    let past : a.lines ≤ a.place.0 = omega arith in
-    rw (le-ltb _ _ past) c.outside.ensures
-
-pub returns-then-list-p : goal.returns-then-list-p
-returns-then-list-p c =
-    let a = c.args in
-    let listed : a.place.0 < a.lines = omega arith in
-    rw (lt-ltb _ _ listed, le-ltb _ _ c.if-list-p.true) c.outside-then-list-p.ensures
-
-pub returns : goal.returns
+pub returns-in-Some : goal.returns-in-Some
 unfolding record_at
-returns c =
+returns-in-Some c =
     let a = c.args in
-    let listed : a.place.0 < a.lines = omega arith in
-    rw (lt-ltb _ _ listed, lt-ltb _ _ c.if-list-p.false, ← c.carries-sort.ensures (record_at a.list.now a.place.0) refl refl)
+    let h = c.in-Some.ensures in
+    let first : word a.list.now a.place.0 0 ≡ get_or c.in-Some.words.now 0 0 = h.1.same 0 (omega arith) in
+    rw (h.0, h.1.there) (c.looked.ensures (record_at a.list.now a.place.0) (ap nid_in first) (ap kind_in first) (ap sort_in first))

@@ -1,11 +1,10 @@
--- The test by division is that of the definition, and keeps the read in bounds. Assumes nothing.
-use borrow.Author.Tests.{le-ltb, lt-ltb}
+-- Its first word is the record's. Assumes nothing.
+use native.Mathlib.Omega.{arith}
 use Rattle.btor2_list.specs.Record.{record_at}
 use Rattle.btor2_list.proofs.nid_at.Goals as goal
 
-pub returns-then-list-p : goal.returns-then-list-p
-returns-then-list-p c = rw (le-ltb _ _ c.if-list-p.true)
-
-pub returns : goal.returns
+pub returns-in-Some : goal.returns-in-Some
 unfolding record_at
-returns c = rw (lt-ltb _ _ c.if-list-p.false)
+returns-in-Some c =
+    let h = c.in-Some.ensures in
+    rw (h.there, h.same 0 (omega arith)) c.nid.ensures

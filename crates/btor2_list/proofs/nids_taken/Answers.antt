@@ -1,25 +1,20 @@
 -- By the kind, the mark of an init, and the sort. Assumes nothing.
 use mathlib.Core.Path.{sym, ap}
 use mathlib.Core.Bool.{Bool, cond}
-use borrow.Author.Tests.{ne_eqb}
-use Rattle.btor2.specs.Sort.{sort_numbered}
-use Rattle.btor2_list.specs.Node.{op_of}
-use Rattle.btor2_list.proofs.Init.{no_init, without_init}
+use Rattle.btor2_list.proofs.Init.{no_init, with_init, without_init}
+use Rattle.btor2_list.proofs.nids_taken.Goals.{else-line-eq-STATE-via-then-line-eq-STATE+then-line-ne0+else-is_some, else-line-eq-STATE-via-then-line-eq-STATE+else-line-ne0, else-line-eq-STATE-via-else-line-eq-STATE}
 use Rattle.btor2_list.proofs.nids_taken.Goals as goal
 
-pub returns-then-line-ne-STATE : goal.returns-then-line-ne-STATE
-returns-then-line-ne-STATE c = ap (λ (b : Bool). cond b 2 1) (sym (no_init c.args.line c.if-line-ne-STATE.true))
+pub returns-then-is_some : goal.returns-then-is_some
+returns-then-is_some c =
+    let h = with_init c.args.line c.if-line-eq-STATE.true c.if-line-ne0.true in
+    rw (h, ← c.sort_of.ensures, ← c.if-is_some.ensures)
 
-pub returns-then-line-eq0 : goal.returns-then-line-eq0
-unfolding op_of
-returns-then-line-eq0 c =
-    let l = c.args.line in
-    rw (c.if-line-ne-STATE.false, c.if-line-eq0.true) (sym (without_init (sort_numbered l.sort) l.name))
-
-pub returns-in-Sort : goal.returns-in-Sort
-unfolding op_of
-returns-in-Sort c = rw (c.if-line-ne-STATE.false, ne_eqb _ _ c.if-line-eq0.false, ← c.in-Sort.ensures)
-
-pub returns-in-NoSort : goal.returns-in-NoSort
-unfolding op_of
-returns-in-NoSort c = rw (c.if-line-ne-STATE.false, ← c.in-NoSort.ensures)
+pub returns-else-line-eq-STATE : goal.returns-else-line-eq-STATE
+returns-else-line-eq-STATE c = elim c.else-line-eq-STATE.branch [
+  | else-line-eq-STATE-via-then-line-eq-STATE+then-line-ne0+else-is_some w ↦
+      let h = with_init c.args.line w.if-line-eq-STATE.true w.if-line-ne0.true in
+      rw (h, ← w.sort_of.ensures, ← w.if-is_some.ensures)
+  | else-line-eq-STATE-via-then-line-eq-STATE+else-line-ne0 w ↦ sym (without_init c.args.line w.if-line-eq-STATE.true w.if-line-ne0.false)
+  | else-line-eq-STATE-via-else-line-eq-STATE w ↦ ap (λ (b : Bool). cond b 2 1) (sym (no_init c.args.line w.if-line-eq-STATE.false))
+]

@@ -1,5 +1,5 @@
 use Rattle.builder_ops.specs.Composed.{new_sra}
-use Rattle.builder.proofs.Gives.{on, kept}
+use Rattle.builder.proofs.Builds.{on}
 use Rattle.builder_ops.proofs.new_sra.Goals as goal
 
 pub returns : goal.returns
@@ -9,6 +9,3 @@ returns c =
     on _ c.new_bin-s.ensures (
     on _ c.new_bin-x.ensures (
     on _ c.new_bin-y.ensures c.new_bin.ensures)))
-
-pub shape_of-list : goal.shape_of-list
-shape_of-list c = kept (returns c)

@@ -1,19 +1,25 @@
 -- The join with the state in the words, which are put back. Assumes nothing.
-use native.Mathlib.Omega.{arith}
+use Rattle.std.proofs.Common.{arith}
+use Rattle.std.proofs.lemmas.Result.{err_from_is_err_and}
 use borrow.Author.Tests.{lt-ltb}
 use Rattle.state.specs.Words.{state_words}
-use Rattle.join.specs.Refusal.{join_lent, join_input}
+use Rattle.join.specs.Code.{lists_lent, lists_given}
 use Rattle.join.specs.Words.{joining_words}
-use Rattle.join_calls.proofs.Entry.{words_put}
+use Rattle.join_calls.proofs.Entry.{words_put, words_left}
 use Rattle.join_calls.proofs.join_words.Goals as goal
 
-pub returns-then-state-lt-STATE_WORDS : goal.returns-then-state-lt-STATE_WORDS
+pub returns-then-state-lt-STATE_WORDS-clause-is : goal.returns-then-state-lt-STATE_WORDS-clause-is
 unfolding joining_words
-returns-then-state-lt-STATE_WORDS c = rw (lt-ltb _ state_words c.if-state-lt-STATE_WORDS.true)
+returns-then-state-lt-STATE_WORDS-clause-is c = rw (lt-ltb _ state_words c.if-state-lt-STATE_WORDS.true)
 
-pub returns : goal.returns
-returns c =
+pub returns-in_err-flow-clause-is : goal.returns-in_err-flow-clause-is
+returns-in_err-flow-clause-is c =
     let a = c.args in
-    rw c.put_held.ensures
-    (words_put (join_lent a.list.now a.names.now a.sequentials.now) _ a.state.now a.used (join_input a.edges.now a.dispatches.now a.flags.now a.dynamics.now a.a) _ _ c.join-joined.result.held
-    (rw c.held_in-before.ensures at c.join-joined.ensures) (omega (arith, c.if-state-lt-STATE_WORDS.false)))
+    let p = err_from_is_err_and c.from_residual.result c.from_residual.ensures.1 in
+    rw (p.1, p.2) (words_left (lists_lent a.lent.now) (lists_lent c.join.new.lent) a.state.now a.used (lists_given a.input.now) _ (rw c.state_in.ensures at c.in_err-flow.ensures.is) (omega (arith, c.if-state-lt-STATE_WORDS.false)))
+
+pub returns-clause-is : goal.returns-clause-is
+returns-clause-is c =
+    let a = c.args in
+    rw c.put_counts.ensures
+    (words_put (lists_lent a.lent.now) _ a.state.now a.used (lists_given a.input.now) _ _ _ (rw c.state_in.ensures at c.in_ok-flow.ensures.is) (omega (arith, c.if-state-lt-STATE_WORDS.false)))

@@ -1,48 +1,41 @@
 -- What is put, and the run from here on, are the whole run. Assumes nothing.
-use Rattle.std.proofs.Common.{◌≡◌, ℕ, ◌≤◌, List, [], ◌++◌, length, sym, refl, ap, ◌∙◌, append_assoc, append-nil, arith}
+use Rattle.std.proofs.Common.{◌≡◌, ◌+◌, ◌-◌, [], ◌++◌, length, sym, refl, ap, ◌∙◌, arith}
 use Rattle.btor2_list.specs.Record.{capacity}
-use Rattle.text.specs.Put.{Put}
-use Rattle.text.proofs.Laws.{then, put_as, put_length}
-use Rattle.line_text.specs.Line.{nodes, node_at, node_text}
-use Rattle.line_text.proofs.Listed.{length-nodes}
-use Rattle.line_text.proofs.Runs.{run_past, run_none, run_on}
+use Rattle.btor2_list.specs.Node.{node_of}
+use Rattle.text.proofs.Laws.{then, put_as}
+use Rattle.line_text.specs.Line.{nodes, node_text}
+use Rattle.line_text.proofs.Listed.{length-nodes, all_got, not_got}
+use Rattle.line_text.proofs.Runs.{run_further, run_ended}
 use Rattle.line_text.proofs.put_lines.Goals as goal
 
--- past the list's end there is nothing more to put
-ended : (s u t : List ℕ) {l : List ℕ} {at : ℕ} {m : List ℕ} {r : ℕ} → Put l at s m r → u ≡ [] → s ++ u ≡ t → Put l at t m r
-ended s u t p past whole = put_as p (sym (append-nil _) ∙ ap (λ (v : List ℕ). s ++ v) (sym past) ∙ whole)
+pub loop-place-init : goal.loop-place-init
+loop-place-init c =
+    let left : c.args.from + c.args.count - c.args.from ≡ c.args.count = omega arith in
+    ([], record { list = refl; next = omega arith }, rw left)
 
-pub loop-left-init : goal.loop-left-init
-loop-left-init c = ([], record { list = refl; next = omega arith }, refl, c.capacity-held.ensures)
-
-pub shape_of-out-then-held-place : goal.shape_of-out-then-held-place
-shape_of-out-then-held-place c = put_length c.loop-left.invariant.1
-
-pub returns-then-held-place : goal.returns-then-held-place
-returns-then-held-place c =
+pub returns-in_default : goal.returns-in_default
+returns-in_default c =
     let a = c.args in
-    let ns = nodes a.list.now (capacity (length a.list.now)) in
-    let h : length ns ≤ c.loop-left.place = omega (arith, length-nodes a.list.now (capacity (length a.list.now)) 0, c.if-held-place.true, c.loop-left.invariant.3) in
-    ended _ _ _ c.loop-left.invariant.1 (run_past a.host.now a.ours.now ns c.loop-left.place c.loop-left.left h) c.loop-left.invariant.2
+    let ws = a.list.now in
+    let past = not_got ws (capacity (length ws)) c.loop-place.place (sym c.in_default.is ∙ c.get.ensures) in
+    put_as c.loop-place.invariant.1 (run_ended a.areas.now.host.now a.areas.now.ours.now (nodes ws (capacity (length ws))) _ _ c.loop-place.place _ (λ h. omega arith) c.loop-place.invariant.2)
 
-pub loop-left-preserved : goal.loop-left-preserved
-loop-left-preserved c =
+pub loop-place-preserved : goal.loop-place-preserved
+loop-place-preserved c =
     let a = c.args in
-    let ns = nodes a.list.now (capacity (length a.list.now)) in
-    let t = node_text a.host.now a.ours.now ns (node_at ns c.loop-left.place) in
-    let on = run_on a.host.now a.ours.now ns c.loop-left.place c.loop-left.left (omega arith) in (
-      c.loop-left.invariant.0 ++ t,
-      then c.well_formed.0.0 c.loop-left.invariant.1 c.put_line-p.ensures,
-      append_assoc c.loop-left.invariant.0 t _ ∙ ap (λ (r : List ℕ). c.loop-left.invariant.0 ++ r) (sym on) ∙ c.loop-left.invariant.2,
-      c.loop-left.invariant.3,
+    let ws = a.list.now in
+    let ns = nodes ws (capacity (length ws)) in
+    let inv = c.loop-place.invariant in
+    let at = ap (node_text a.areas.now.host.now a.areas.now.ours.now ns) (all_got ws c.loop-place.place c.in-Some.line (sym c.in-Some.is ∙ c.get.ensures)) in
+    let left : a.from + a.count - c.loop-place.place - 1 ≡ a.from + a.count - (c.loop-place.place + 1) = omega arith in (
+      inv.0 ++ node_text a.areas.now.host.now a.areas.now.ours.now ns (node_of c.in-Some.line),
+      then (omega arith) inv.1 c.put_line-p.ensures,
+      rw left at (run_further a.areas.now.host.now a.areas.now.ours.now ns inv.0 _ _ c.loop-place.place _ (omega arith) at inv.2),
     )
-
-pub shape_of-out : goal.shape_of-out
-shape_of-out c = put_length c.loop-left.invariant.1
 
 pub returns : goal.returns
 returns c =
     let a = c.args in
-    let ns = nodes a.list.now (capacity (length a.list.now)) in
-    let z : c.loop-left.left ≡ 0 = omega arith in
-    ended _ _ _ c.loop-left.invariant.1 (run_none a.host.now a.ours.now ns c.loop-left.place c.loop-left.left z) c.loop-left.invariant.2
+    let ws = a.list.now in
+    let long = length-nodes ws (capacity (length ws)) 0 in
+    put_as c.loop-place.invariant.1 (run_ended a.areas.now.host.now a.areas.now.ours.now (nodes ws (capacity (length ws))) _ _ c.loop-place.place _ (λ h. omega arith) c.loop-place.invariant.2)

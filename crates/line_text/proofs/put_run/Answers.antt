@@ -9,6 +9,6 @@ use Rattle.line_text.proofs.put_run.Goals as goal
 
 pub returns : goal.returns
 returns c =
-    let a = c.args in
-    let same = ap (λ (ws : List ℕ). nodes ws (capacity (length ws))) c.first_lines-listed.ensures ∙ cut_nodes a.list.now a.lines in
-    put_as c.put_lines.ensures (ap (λ (ns : List Node). run_text a.host.now a.ours.now ns a.from a.count) same)
+    let a = c.args.listing.now in
+    let same = ap (λ (ws : List ℕ). nodes ws (capacity (length ws))) c.first_lines-list.ensures ∙ cut_nodes a.list.now a.lines in
+    put_as c.put_lines.ensures (ap (λ (ns : List Node). run_text a.areas.host.now a.areas.ours.now ns c.args.from c.args.count) same)

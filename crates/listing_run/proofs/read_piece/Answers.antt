@@ -1,13 +1,10 @@
 -- Nothing came, or a piece is taken. Assumes nothing.
 use Rattle.std.proofs.Common.{arith}
-use Rattle.std.proofs.lemmas.Result.{err_from_is_err_and}
 use Rattle.listing_run.proofs.Bytes.{here, nothing}
 use Rattle.listing_run.proofs.read_piece.Goals as goal
 
-pub returns-in_err-n-clause-left : goal.returns-in_err-n-clause-left
-returns-in_err-n-clause-left g c =
-    let e = err_from_is_err_and c.from_residual.result c.from_residual.ensures.1 in
-    rw e.1 (record { reading = c.args.reading; by = here _ })
+pub returns-in_err-n-clause-reached : goal.returns-in_err-n-clause-reached
+returns-in_err-n-clause-reached g c = here _
 
 pub returns-then-n-eq0-clause-reached : goal.returns-then-n-eq0-clause-reached
 returns-then-n-eq0-clause-reached g c = here _

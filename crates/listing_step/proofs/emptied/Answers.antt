@@ -1,5 +1,5 @@
 -- Field by field. Assumes nothing.
-use mathlib.Core.Path.{refl}
+use Rattle.std.proofs.Common.{refl}
 use Rattle.listing_bytes.specs.Step.{emptied}
 use Rattle.listing_step.proofs.emptied.Goals as goal
 

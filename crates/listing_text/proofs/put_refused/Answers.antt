@@ -1,4 +1,5 @@
 -- One piece after the other. Assumes nothing.
+use Rattle.std.proofs.Common.{◌^◌, ◌<◌, length, arith}
 use Rattle.text.proofs.Laws.{then}
 use Rattle.listing_text.specs.Remarks.{refused_text}
 use Rattle.listing_text.proofs.put_refused.Goals as goal
@@ -6,5 +7,5 @@ use Rattle.listing_text.proofs.put_refused.Goals as goal
 pub returns : goal.returns
 unfolding refused_text
 returns c =
-    let h = c.well_formed.0.0 in
-    then h (then h (then h (then h c.put_bytes-p0.ensures c.put_decimal-p1.ensures) c.put_byte-p2.ensures) c.put_decimal-p3.ensures) c.put_byte.ensures
+    let h : length c.args.out.now < 2 ^ 64 = omega arith in
+    then h (then h (then h (then h c.put_bytes-at.ensures c.put_decimal-at.ensures) c.put_byte-at.ensures) c.put_decimal-at-2.ensures) c.put_byte.ensures

@@ -1,11 +1,19 @@
 -- The call is over the state's words, which are read again. Assumes nothing.
-use Rattle.lowering.specs.Lowering.{lent}
-use Rattle.lowering_calls.proofs.Entries.{over_state}
+use Rattle.std.proofs.lemmas.Result.{err_from_is_err_and}
+use Rattle.lowering.specs.Lowering.{lent_by}
+use Rattle.lowering_calls.proofs.Entries.{over_state, refused_over_state}
 use Rattle.lowering_calls.proofs.lower.Goals as goal
 
-pub returns : goal.returns
-returns c =
+pub returns-in_err-lower_words-clause-is : goal.returns-in_err-lower_words-clause-is
+returns-in_err-lower_words-clause-is c =
     let a = c.args in
-    over_state (lent a.list.now a.names.now a.edges.now a.dispatches.now a.bads.now) a.state a.i a.address a.flag c.words_of-words.ensures.roles c.lower_words-refusal.result
-    (lent c.lower_words-refusal.new.list c.lower_words-refusal.new.names c.lower_words-refusal.new.edges c.lower_words-refusal.new.dispatches c.lower_words-refusal.new.bads) c.lower_words-refusal.new.state
-    c.state_in-after.result (rw c.words_of-words.ensures.words at c.lower_words-refusal.ensures) c.state_in-after.ensures
+    let p = err_from_is_err_and c.from_residual.result c.from_residual.ensures.1 in
+    rw (p.1, p.2)
+    (refused_over_state (lent_by a.lent.now) a.state a.call.instruction a.call.address a.call.flag c.words_of-words.ensures.roles c.in_err-lower_words.field-0.0 _ _
+    (rw c.words_of-words.ensures.words at c.in_err-lower_words.ensures.is))
+
+pub returns-clause-is : goal.returns-clause-is
+returns-clause-is c =
+    let a = c.args in
+    over_state (lent_by a.lent.now) a.state a.call.instruction a.call.address a.call.flag c.words_of-words.ensures.roles 0 _ _ _
+    (rw c.words_of-words.ensures.words at c.in_ok-lower_words.ensures.is) c.state_in.ensures

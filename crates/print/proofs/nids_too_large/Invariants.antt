@@ -1,5 +1,4 @@
 -- No line before this one has too large an identifier. Assumes nothing.
-use Prim.Native.Nat.{◌≤◌, ◌-◌}
 use mathlib.Core.Path.{◌≡◌}
 use mathlib.Core.Bool.{false}
 use Rattle.list_check.specs.Lines.{some}
@@ -7,7 +6,4 @@ use Rattle.print.specs.Printing.{nid_too_large}
 use Rattle.print.proofs.nids_too_large.Given as goal
 
 abbrev pub invariant-loop-i : goal.invariant-loop-i
-invariant-loop-i l = (l.i ≤ l.lines) × (some l.i (nid_too_large l.list l.lines) ≡ false)
-
-abbrev pub decreases-loop-i : goal.decreases-loop-i
-decreases-loop-i l = l.lines - l.i
+invariant-loop-i l = some l.i (nid_too_large l.list l.lines) ≡ false

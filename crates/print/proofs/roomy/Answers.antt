@@ -1,7 +1,7 @@
 -- The tests before the survey, the survey, and the sum that does not wrap. Assumes nothing.
-use Prim.Native.Nat.{ℕ, ◌+◌, ◌-◌, ◌*◌, ◌≤◌}
+use Prim.Native.Nat.{ℕ, ◌+◌, ◌≤◌}
 use mathlib.Core.Path.{◌≡◌, sym, ◌∙◌}
-use mathlib.Core.Bool.{Bool, false, ◌||◌, true≢false}
+use mathlib.Core.Bool.{Bool, false}
 use mathlib.Core.List.{List}
 use lib.ListN.{length}
 use native.Mathlib.Omega.{arith}
@@ -22,47 +22,40 @@ module _ (ws : List ℕ) (lines from count : ℕ) where
     held : lines ≤ capacity (length ws)
     inside : from + count ≤ lines
 
-  bounded : {l r : Bool} → l ≡ lines_out (capacity (length ws)) lines → r ≡ ltb lines (from + count) → (l || r) ≡ false → Bounded
-  bounded {l} {r} bounds_is outside_is h =
-      let both = neither l r h in
-      let bounds = sym bounds_is ∙ both.0 in
+  bounded : {l r : Bool} → l ≡ lines_out (capacity (length ws)) lines → r ≡ ltb lines (from + count) → l ≡ false → r ≡ false → Bounded
+  bounded {l} {r} bounds_is outside_is held inside =
+      let bounds = sym bounds_is ∙ held in
       let each = neither (ltb most_lines lines) _ bounds in
       record {
         bounds = bounds;
         most = ltb-false most_lines lines each.0;
         held = ltb-false (capacity (length ws)) lines each.1;
-        inside = ltb-false lines (from + count) (sym outside_is ∙ both.1);
+        inside = ltb-false lines (from + count) (sym outside_is ∙ inside);
       }
 
-pub returns-then-list_out-run_outside : goal.returns-then-list_out-run_outside
-returns-then-list_out-run_outside c h = absurd (true≢false (sym h))
-
-pub survey-names-requires : goal.survey-names-requires
-survey-names-requires c =
-    let a = c.args in
-    let i = bounded a.list.now a.lines a.from a.count c.list_out.ensures c.run_outside.ensures c.if-list_out-run_outside.false in
+pub survey-requires : goal.survey-requires
+survey-requires c =
+    let a = c.args.listing.now in
+    let i = bounded a.list.now a.lines c.args.from c.args.count c.list_out.ensures c.run_outside.ensures c.if-list_out.false c.if-run_outside.false in
     i.held
-
-pub returns-then-end-names : goal.returns-then-end-names
-returns-then-end-names c h = absurd (true≢false (sym h))
 
 pub overflow_mul-result : goal.overflow_mul-result
 overflow_mul-result c =
-    let a = c.args in
-    let i = bounded a.list.now a.lines a.from a.count c.list_out.ensures c.run_outside.ensures c.if-list_out-run_outside.false in
+    let a = c.args.listing.now in
+    let i = bounded a.list.now a.lines c.args.from c.args.count c.list_out.ensures c.run_outside.ensures c.if-list_out.false c.if-run_outside.false in
     record { fits = omega arith }
 
 pub returns : goal.returns
 unfolding nids_too_large whole_refusal
 returns c h =
-    let a = c.args in
+    let a = c.args.listing.now in
     let ws = a.list.now in
-    let i = bounded ws a.lines a.from a.count c.list_out.ensures c.run_outside.ensures c.if-list_out-run_outside.false in
-    let done = c.survey-names.ensures (omega arith) in
+    let i = bounded ws a.lines c.args.from c.args.count c.list_out.ensures c.run_outside.ensures c.if-list_out.false c.if-run_outside.false in
+    let done = c.in-Some.ensures in
     record {
-      whole = rw (i.bounds, done.nids, le-ltb _ _ i.held, by_records ws a.lines i.held a.host a.ours ∙ done.formed);
+      whole = rw (i.bounds, done.nids, le-ltb _ _ i.held, by_records ws a.lines i.held _ _ ∙ done.formed);
       nids = done.nids;
       held = i.held;
       inside = i.inside;
-      room = omega (arith, leb-true (53 * a.count) (a.end - c.survey-names.result) h, done.room, c.if-end-names.false);
+      room = omega (arith, leb-true _ _ h, done.room, c.in-Some-checked_sub.ensures);
     }

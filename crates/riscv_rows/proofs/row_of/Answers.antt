@@ -1,208 +1,23 @@
--- An arm's number names its kind, and what is no other kind is Ecall: antt computes the kind's row. Assumes nothing.
+-- The table is that of the definitions: antt computes it. Assumes nothing.
+use Rattle.std.proofs.Common.{◌≡◌, ℕ, ◌<◌, List, map, get_or, refl, ap, ◌∙◌}
+use Rattle.std.proofs.lemmas.List.{get_or-map}
+use Rattle.riscv.specs.declared.Kind.{Kind}
+use Rattle.riscv.specs.declared.Kind.TheVariants.{Ecall}
+use Rattle.riscv.specs.Kind.{kinds, kind_count, kind_number}
 use Rattle.riscv.specs.Name.{packed}
-use Rattle.riscv.proofs.Numbered.{last_kind}
+use Rattle.riscv.proofs.Numbered.{kind_back}
+use Rattle.riscv_rows.specs.Coded.{coded}
+use Rattle.riscv_rows.specs.declared.Row.{Row}
+use Rattle.riscv_rows.specs.declared.TheConstants.{ROWS}
 use Rattle.riscv_rows.proofs.row_of.Goals as goal
 
-pub returns-in-0 : goal.returns-in-0
+table : ROWS ≡ map coded kinds
 unfolding packed
-returns-in-0 c = rw c.in-0.is
+table = refl
 
-pub returns-in-1 : goal.returns-in-1
-unfolding packed
-returns-in-1 c = rw c.in-1.is
+row_at : (k : Kind) (r : Row) (n : ℕ) → n ≡ kind_number k → n < kind_count → get_or ROWS n r ≡ coded k
+row_at k r n e l =
+    ap (λ (rows : List Row). get_or rows n r) table ∙ get_or-map coded kinds n Ecall r l ∙ ap (λ (m : ℕ). coded (get_or kinds m Ecall)) e ∙ ap coded (kind_back k)
 
-pub returns-in-2 : goal.returns-in-2
-unfolding packed
-returns-in-2 c = rw c.in-2.is
-
-pub returns-in-3 : goal.returns-in-3
-unfolding packed
-returns-in-3 c = rw c.in-3.is
-
-pub returns-in-4 : goal.returns-in-4
-unfolding packed
-returns-in-4 c = rw c.in-4.is
-
-pub returns-in-5 : goal.returns-in-5
-unfolding packed
-returns-in-5 c = rw c.in-5.is
-
-pub returns-in-6 : goal.returns-in-6
-unfolding packed
-returns-in-6 c = rw c.in-6.is
-
-pub returns-in-7 : goal.returns-in-7
-unfolding packed
-returns-in-7 c = rw c.in-7.is
-
-pub returns-in-8 : goal.returns-in-8
-unfolding packed
-returns-in-8 c = rw c.in-8.is
-
-pub returns-in-9 : goal.returns-in-9
-unfolding packed
-returns-in-9 c = rw c.in-9.is
-
-pub returns-in-10 : goal.returns-in-10
-unfolding packed
-returns-in-10 c = rw c.in-10.is
-
-pub returns-in-11 : goal.returns-in-11
-unfolding packed
-returns-in-11 c = rw c.in-11.is
-
-pub returns-in-12 : goal.returns-in-12
-unfolding packed
-returns-in-12 c = rw c.in-12.is
-
-pub returns-in-13 : goal.returns-in-13
-unfolding packed
-returns-in-13 c = rw c.in-13.is
-
-pub returns-in-14 : goal.returns-in-14
-unfolding packed
-returns-in-14 c = rw c.in-14.is
-
-pub returns-in-15 : goal.returns-in-15
-unfolding packed
-returns-in-15 c = rw c.in-15.is
-
-pub returns-in-16 : goal.returns-in-16
-unfolding packed
-returns-in-16 c = rw c.in-16.is
-
-pub returns-in-17 : goal.returns-in-17
-unfolding packed
-returns-in-17 c = rw c.in-17.is
-
-pub returns-in-18 : goal.returns-in-18
-unfolding packed
-returns-in-18 c = rw c.in-18.is
-
-pub returns-in-19 : goal.returns-in-19
-unfolding packed
-returns-in-19 c = rw c.in-19.is
-
-pub returns-in-20 : goal.returns-in-20
-unfolding packed
-returns-in-20 c = rw c.in-20.is
-
-pub returns-in-21 : goal.returns-in-21
-unfolding packed
-returns-in-21 c = rw c.in-21.is
-
-pub returns-in-22 : goal.returns-in-22
-unfolding packed
-returns-in-22 c = rw c.in-22.is
-
-pub returns-in-23 : goal.returns-in-23
-unfolding packed
-returns-in-23 c = rw c.in-23.is
-
-pub returns-in-24 : goal.returns-in-24
-unfolding packed
-returns-in-24 c = rw c.in-24.is
-
-pub returns-in-25 : goal.returns-in-25
-unfolding packed
-returns-in-25 c = rw c.in-25.is
-
-pub returns-in-26 : goal.returns-in-26
-unfolding packed
-returns-in-26 c = rw c.in-26.is
-
-pub returns-in-27 : goal.returns-in-27
-unfolding packed
-returns-in-27 c = rw c.in-27.is
-
-pub returns-in-28 : goal.returns-in-28
-unfolding packed
-returns-in-28 c = rw c.in-28.is
-
-pub returns-in-29 : goal.returns-in-29
-unfolding packed
-returns-in-29 c = rw c.in-29.is
-
-pub returns-in-30 : goal.returns-in-30
-unfolding packed
-returns-in-30 c = rw c.in-30.is
-
-pub returns-in-31 : goal.returns-in-31
-unfolding packed
-returns-in-31 c = rw c.in-31.is
-
-pub returns-in-32 : goal.returns-in-32
-unfolding packed
-returns-in-32 c = rw c.in-32.is
-
-pub returns-in-33 : goal.returns-in-33
-unfolding packed
-returns-in-33 c = rw c.in-33.is
-
-pub returns-in-34 : goal.returns-in-34
-unfolding packed
-returns-in-34 c = rw c.in-34.is
-
-pub returns-in-35 : goal.returns-in-35
-unfolding packed
-returns-in-35 c = rw c.in-35.is
-
-pub returns-in-36 : goal.returns-in-36
-unfolding packed
-returns-in-36 c = rw c.in-36.is
-
-pub returns-in-37 : goal.returns-in-37
-unfolding packed
-returns-in-37 c = rw c.in-37.is
-
-pub returns-in-38 : goal.returns-in-38
-unfolding packed
-returns-in-38 c = rw c.in-38.is
-
-pub returns-in-39 : goal.returns-in-39
-unfolding packed
-returns-in-39 c = rw c.in-39.is
-
-pub returns-in-40 : goal.returns-in-40
-unfolding packed
-returns-in-40 c = rw c.in-40.is
-
-pub returns-in-41 : goal.returns-in-41
-unfolding packed
-returns-in-41 c = rw c.in-41.is
-
-pub returns-in-42 : goal.returns-in-42
-unfolding packed
-returns-in-42 c = rw c.in-42.is
-
-pub returns-in-43 : goal.returns-in-43
-unfolding packed
-returns-in-43 c = rw c.in-43.is
-
-pub returns-in-44 : goal.returns-in-44
-unfolding packed
-returns-in-44 c = rw c.in-44.is
-
-pub returns-in-45 : goal.returns-in-45
-unfolding packed
-returns-in-45 c = rw c.in-45.is
-
-pub returns-in-46 : goal.returns-in-46
-unfolding packed
-returns-in-46 c = rw c.in-46.is
-
-pub returns-in-47 : goal.returns-in-47
-unfolding packed
-returns-in-47 c = rw c.in-47.is
-
-pub returns-in-48 : goal.returns-in-48
-unfolding packed
-returns-in-48 c = rw c.in-48.is
-
-pub returns-in-49 : goal.returns-in-49
-unfolding packed
-returns-in-49 c = rw c.in-49.is
-
-pub returns-in_default : goal.returns-in_default
-unfolding packed
-returns-in_default c = rw (last_kind _ c.in_default.in_default-own.rest)
+pub returns : goal.returns
+returns c = row_at c.args.kind _ c.number.result c.number.ensures.is c.number.ensures.below

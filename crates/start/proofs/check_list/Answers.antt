@@ -32,15 +32,15 @@ is12 ws n h e = sym (rw h at e)
 
 -- ---- the answers
 
-pub returns-then-list_out-next : goal.returns-then-list_out-next
+pub returns-then-tally_out : goal.returns-then-tally_out
 unfolding list_refusal
-returns-then-list_out-next c = rw (← c.list_out.ensures, c.if-list_out-next.true)
+returns-then-tally_out c = rw (← c.capacity.ensures, ← c.tally_out.ensures, c.if-tally_out.true)
 
 pub returns-then-nids_out : goal.returns-then-nids_out
 unfolding list_refusal
 returns-then-nids_out c =
     let a = c.args in
-    let in9 : tally_out most_start_nid (capacity (length a.list.now)) a.lines a.next ≡ false = rw (← c.list_out.ensures) c.if-list_out-next.false in
+    let in9 : tally_out most_start_nid (capacity (length a.list.now)) a.lines a.next ≡ false = rw (← c.capacity.ensures, ← c.tally_out.ensures) c.if-tally_out.false in
     let h = held a.list.now a.lines a.next in9 in
     rw (in9, is10 a.list.now a.lines a.next h c.nids_out.ensures ∙ c.if-nids_out.true)
 
@@ -48,7 +48,7 @@ pub returns-then-unformed : goal.returns-then-unformed
 unfolding list_refusal
 returns-then-unformed c =
     let a = c.args in
-    let in9 : tally_out most_start_nid (capacity (length a.list.now)) a.lines a.next ≡ false = rw (← c.list_out.ensures) c.if-list_out-next.false in
+    let in9 : tally_out most_start_nid (capacity (length a.list.now)) a.lines a.next ≡ false = rw (← c.capacity.ensures, ← c.tally_out.ensures) c.if-tally_out.false in
     let h = held a.list.now a.lines a.next in9 in
     rw (in9, is10 a.list.now a.lines a.next h c.nids_out.ensures ∙ c.if-nids_out.false, is11 a.list.now a.lines a.host a.ours h c.unformed.ensures ∙ c.if-unformed.true)
 
@@ -56,7 +56,7 @@ pub returns-then-sort_broken : goal.returns-then-sort_broken
 unfolding list_refusal
 returns-then-sort_broken c =
     let a = c.args in
-    let in9 : tally_out most_start_nid (capacity (length a.list.now)) a.lines a.next ≡ false = rw (← c.list_out.ensures) c.if-list_out-next.false in
+    let in9 : tally_out most_start_nid (capacity (length a.list.now)) a.lines a.next ≡ false = rw (← c.capacity.ensures, ← c.tally_out.ensures) c.if-tally_out.false in
     let h = held a.list.now a.lines a.next in9 in
     rw (in9, is10 a.list.now a.lines a.next h c.nids_out.ensures ∙ c.if-nids_out.false, is11 a.list.now a.lines a.host a.ours h c.unformed.ensures ∙ c.if-unformed.false, is12 a.list.now a.lines h c.sort_broken.ensures ∙ c.if-sort_broken.true)
 
@@ -64,6 +64,6 @@ pub returns : goal.returns
 unfolding list_refusal
 returns c =
     let a = c.args in
-    let in9 : tally_out most_start_nid (capacity (length a.list.now)) a.lines a.next ≡ false = rw (← c.list_out.ensures) c.if-list_out-next.false in
+    let in9 : tally_out most_start_nid (capacity (length a.list.now)) a.lines a.next ≡ false = rw (← c.capacity.ensures, ← c.tally_out.ensures) c.if-tally_out.false in
     let h = held a.list.now a.lines a.next in9 in
     rw (in9, is10 a.list.now a.lines a.next h c.nids_out.ensures ∙ c.if-nids_out.false, is11 a.list.now a.lines a.host a.ours h c.unformed.ensures ∙ c.if-unformed.false, is12 a.list.now a.lines h c.sort_broken.ensures ∙ c.if-sort_broken.false)

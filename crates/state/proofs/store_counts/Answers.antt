@@ -1,23 +1,12 @@
--- Six words. Assumes nothing.
-use native.Mathlib.Omega.{arith}
-use lib.ListN.{length-set}
+-- The six words before the roles. Assumes nothing.
+use Rattle.std.proofs.Common.{refl, arith, ◌∙◌}
+use Rattle.edges.proofs.Copied.{copied}
+use Rattle.state.proofs.Words.{six}
 use Rattle.state.proofs.Put.{counts_put}
 use Rattle.state.proofs.store_counts.Goals as goal
 
-pub bounds-words-1 : goal.bounds-words-1
-bounds-words-1 c = simp length-set (omega arith)
-
-pub bounds-words-2 : goal.bounds-words-2
-bounds-words-2 c = simp length-set (omega arith)
-
-pub bounds-words-3 : goal.bounds-words-3
-bounds-words-3 c = simp length-set (omega arith)
-
-pub bounds-words-4 : goal.bounds-words-4
-bounds-words-4 c = simp length-set (omega arith)
-
-pub bounds-words-5 : goal.bounds-words-5
-bounds-words-5 c = simp length-set (omega arith)
-
 pub returns : goal.returns
-returns c = counts_put c.args.words.now c.args.t c.args.c c.requires
+returns c =
+    let a = c.args in
+    rw (c.copy_from_slice.ensures.after, c.count_words.ensures)
+    (copied a.words.now (six a.t a.c) 0 6 refl (omega arith) ∙ counts_put a.words.now a.t a.c c.requires)

@@ -11,7 +11,8 @@ use Rattle.state.specs.Roles.{ref, role, role_count}
 use Rattle.state.specs.Words.{first_role, state_words, place, state_out}
 use Rattle.state.proofs.Words.{six}
 use Rattle.state.proofs.Stored.{front, front_more, front_all}
-use Rattle.state.proofs.words_of.Invariants.{wanted}
+use Rattle.edges.proofs.Copied.{copied}
+use Rattle.state.proofs.words_of.Invariants.{wanted, begun}
 use Rattle.state.proofs.words_of.Goals as goal
 
 module _ (words₀ : List ℕ) (places : List NodeRef) (size : length words₀ ≡ state_words) (roles : length places ≡ role_count) where
@@ -33,25 +34,28 @@ module _ (words₀ : List ℕ) (places : List NodeRef) (size : length words₀ �
       ∙ ap (front (wanted words₀ places) words₀) (let e : first_role + k + 1 ≡ first_role + (k + 1) = omega arith in e)
 
 pub loop-k-init : goal.loop-k-init
-loop-k-init c = (omega arith, refl, search rules, refl, refl)
+loop-k-init c =
+    let a = c.args in
+    let zeros : List ℕ = replicate state_words 0 in
+    let copy : c.copy_from_slice.new.self ≡ six a.t a.c = c.copy_from_slice.ensures.after ∙ c.count_words.ensures in
+    let first = copied zeros c.copy_from_slice.new.self 0 6 (ap length copy) (omega arith) ∙ ap (λ (r : List ℕ). sets zeros 0 r) copy in
+    (search rules, ap length first, first)
 
 pub loop-k-preserved : goal.loop-k-preserved
 loop-k-preserved c =
     let l = c.loop-k in
     let a = c.args in
-    let words₀ = sets (replicate state_words 0) 0 (six a.t a.c) in (
-      omega arith,
-      refl,
-      l.invariant.2,
-      length-set l.words (first_role + l.k) _ ∙ l.invariant.3,
-      ap (λ (x : List ℕ). set x (first_role + l.k) (place (role a.places l.k))) l.invariant.4 ∙ more words₀ a.places refl l.invariant.2 l.k c.loop-k-test.true,
+    let words₀ = begun a.t a.c in (
+      l.invariant.0,
+      length-set l.words (first_role + l.k) _ ∙ l.invariant.1,
+      ap (λ (x : List ℕ). set x (first_role + l.k) (place (role a.places l.k))) l.invariant.2 ∙ more words₀ a.places refl l.invariant.0 l.k c.loop-k-test.true,
     )
 
-pub returns : goal.returns
+pub returns-clause-words : goal.returns-clause-words
 unfolding state_out
-returns c =
+returns-clause-words c =
     let l = c.loop-k in
     let a = c.args in
-    let words₀ = sets (replicate state_words 0) 0 (six a.t a.c) in
-    let all : first_role + l.k ≡ state_words = omega (arith, l.invariant.0, c.loop-k-test.false) in
-    record { words = l.invariant.4 ∙ ap (front (wanted words₀ a.places) words₀) all ∙ front_all (wanted words₀ a.places) words₀ state_words (wanted_length words₀ a.places refl l.invariant.2) refl; roles = l.invariant.2 }
+    let words₀ = begun a.t a.c in
+    let all : first_role + l.k ≡ state_words = omega arith in
+    l.invariant.2 ∙ ap (front (wanted words₀ a.places) words₀) all ∙ front_all (wanted words₀ a.places) words₀ state_words (wanted_length words₀ a.places refl l.invariant.0) refl

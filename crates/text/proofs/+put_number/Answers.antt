@@ -1,6 +1,5 @@
 -- The digits before the last are those of x / base, one fewer at most. Falls: k. Assumes nothing.
 use mathlib.Core.Path.{refl}
-use native.Mathlib.Nat.{mod-lt}
 use native.Mathlib.Omega.{arith}
 use Rattle.text.specs.Numeral.{numeral}
 use Rattle.text.proofs.Laws.{then, put_as, numeral_one, numeral_more}
@@ -9,9 +8,6 @@ use Rattle.text.proofs.+put_number.Goals as goal
 pub returns-then-k-eq0 : goal.returns-then-k-eq0
 unfolding numeral
 returns-then-k-eq0 t c = rw c.if-k-eq0.true (record { list = refl; next = omega arith })
-
-pub digit-d-requires : goal.digit-d-requires
-digit-d-requires t c = let a = c.args in omega (arith, mod-lt a.x {m = a.base} (omega arith))
 
 pub returns-then-x-base : goal.returns-then-x-base
 returns-then-x-base t c =

@@ -1,17 +1,10 @@
 use Rattle.builder_ops.specs.Composed.{new_shift_right}
-use Rattle.builder.proofs.Gives.{kept}
 use Rattle.builder_ops.proofs.extend.new_shift_right.Goals as goal
 
 pub returns-then-signed : goal.returns-then-signed
 unfolding new_shift_right
 returns-then-signed c = rw c.if-signed.true c.new_sra.ensures
 
-pub shape_of-list-then-signed : goal.shape_of-list-then-signed
-shape_of-list-then-signed c = kept (returns-then-signed c)
-
 pub returns : goal.returns
 unfolding new_shift_right
 returns c = rw c.if-signed.false c.new_bin.ensures
-
-pub shape_of-list : goal.shape_of-list
-shape_of-list c = kept (returns c)

@@ -1,5 +1,5 @@
 use Rattle.builder_ops.specs.Composed.{check_addition_overflow}
-use Rattle.builder.proofs.Gives.{on, kept}
+use Rattle.builder.proofs.Builds.{on}
 use Rattle.builder_ops.proofs.overflow.check_addition_overflow.Goals as goal
 
 pub returns : goal.returns
@@ -11,7 +11,4 @@ returns c =
     on _ c.new_bin-z.ensures (
     on _ c.new_eq-equal.ensures (
     on _ c.new_neq-overflow.ensures (
-    on _ c.new_and_bit-occurred.ensures c.new_ite.ensures))))))
-
-pub shape_of-list : goal.shape_of-list
-shape_of-list c = kept (returns c)
+    on _ c.new_and-occurred.ensures c.new_ite.ensures))))))

@@ -1,5 +1,5 @@
 use Rattle.builder_ops.specs.Composed.{check_multiplication_overflow}
-use Rattle.builder.proofs.Gives.{on, kept}
+use Rattle.builder.proofs.Builds.{on}
 use Rattle.builder_ops.proofs.overflow.check_multiplication_overflow.Goals as goal
 
 pub returns : goal.returns
@@ -14,6 +14,3 @@ returns c =
     on _ c.new_eq-msb.ensures (
     on _ c.new_eq-not_msb.ensures (
     on _ c.new_or-occurred.ensures c.new_ite.ensures))))))))
-
-pub shape_of-list : goal.shape_of-list
-shape_of-list c = kept (returns c)

@@ -1,34 +1,26 @@
--- The first record for the place: what is left of the records gives what all do. Assumes nothing.
-use Rattle.std.proofs.Common.{◌≡◌, ℕ, ◌-◌, ◌*◌, ◌/◌, eqb, length, sym, refl, ap, ◌∙◌, arith, get_or-drop, eq-eqb, ne_eqb}
-use Rattle.evaluation.specs.Given.{NodeValue, value_stride, value_in, for_node}
-use Rattle.btor2_list.proofs.Records.{found, passed, ended, first_word}
+-- The first record that is left is the node's, or the others give what all do. Assumes nothing.
+use Rattle.std.proofs.Common.{sym, ap, ◌∙◌, eq-eqb, ne_eqb}
+use Rattle.std.specs.Slice.Iter.{chunks_exact_rest}
+use Rattle.evaluation.specs.Given.{given_value}
+use Rattle.evaluation_calls.proofs.Records.{value_next, value_none}
 use Rattle.evaluation_calls.proofs.given_records.first_value.Goals as goal
 
-pub loop-i-init : goal.loop-i-init
-loop-i-init c = let n = length c.args.values.now / value_stride in let all : n - 0 ≡ n = omega arith in (refl, omega arith, rw all)
+pub returns-then-record-place : goal.returns-then-record-place
+returns-then-record-place c =
+    let s = c.in-Some.ensures.steps in
+    let i = c.loop-record.invariant in
+    let e = value_next c.in-Some.record.now (chunks_exact_rest c.next.new.self) c.args.place.0 (s.1.1 ∙ i.2) in
+    sym (rw (eq-eqb _ _ c.if-record-place.true) at e) ∙ ap (λ l. given_value l c.args.place.0) (sym s.1.0) ∙ i.3
 
-pub returns-then-values-i : goal.returns-then-values-i
-returns-then-values-i c =
-    let a = c.args in
-    let vs = a.values.now in
-    let i = c.loop-i.i in
-    sym (get_or-drop (i * value_stride) vs 1 0)
-    ∙ found 0 value_stride value_in (for_node a.place.0) (λ (x : NodeValue). x.value) (length vs / value_stride) i vs c.loop-i.invariant.2 (omega arith)
-    (ap (λ (q : ℕ). eqb q a.place.0) (first_word (i * value_stride) vs) ∙ eq-eqb _ _ c.if-values-i.true)
-
-pub loop-i-preserved : goal.loop-i-preserved
-loop-i-preserved c =
-    let a = c.args in
-    let vs = a.values.now in
-    let i = c.loop-i.i in (
-      refl,
-      omega arith,
-      passed 0 value_stride value_in (for_node a.place.0) (λ (x : NodeValue). x.value) (length vs / value_stride) i vs c.loop-i.invariant.2 (omega arith)
-          (ap (λ (q : ℕ). eqb q a.place.0) (first_word (i * value_stride) vs) ∙ ne_eqb _ _ c.if-values-i.false),
-    )
+pub loop-record-preserved : goal.loop-record-preserved
+loop-record-preserved c =
+    let s = c.in-Some.ensures.steps in
+    let i = c.loop-record.invariant in
+    let e = value_next c.in-Some.record.now (chunks_exact_rest c.next.new.self) c.args.place.0 (s.1.1 ∙ i.2) in
+    (rw s.0 i.0, tt, s.0 ∙ i.2, sym (rw (ne_eqb _ _ c.if-record-place.false) at e) ∙ ap (λ l. given_value l c.args.place.0) (sym s.1.0) ∙ i.3)
 
 pub returns : goal.returns
 returns c =
-    let a = c.args in
-    let vs = a.values.now in
-    ended 0 value_stride value_in (for_node a.place.0) (λ (x : NodeValue). x.value) (length vs / value_stride) c.loop-i.i vs c.loop-i.invariant.2 (omega arith)
+    let s = c.in-None.ensures.steps in
+    let i = c.loop-record.invariant in
+    value_none (chunks_exact_rest c.loop-record.record-iterator) c.args.place.0 (rw i.2 at s.1.0) ∙ i.3

@@ -1,12 +1,10 @@
--- The first record for the place: what is left of the records gives what all do. Assumes nothing.
-use Rattle.std.proofs.Common.{◌≡◌, ◌-◌, ◌*◌, ◌/◌, ◌≤◌, length, drop}
-use Rattle.btor2_list.specs.Records.{records_in, first_given}
-use Rattle.evaluation.specs.Given.{NodeValue, value_stride, value_in, for_node, given_value}
+-- The records that are left give what all do. Assumes nothing.
+use Rattle.std.proofs.Common.{◌≡◌}
+use Rattle.std.specs.Slice.Iter.{chunks_exact_rest, chunks_exact_size}
+use Rattle.evaluation.specs.Given.{value_stride, given_value}
 use Rattle.evaluation_calls.proofs.given_records.first_value.Given as goal
 
-abbrev pub invariant-loop-i : goal.invariant-loop-i
-invariant-loop-i l = (l.records ≡ length l.values / value_stride) × (l.i ≤ l.records)
-    × (first_given 0 (for_node l.p) (λ (x : NodeValue). x.value) (records_in value_stride value_in (l.records - l.i) (drop (l.i * value_stride) l.values)) ≡ given_value l.values l.p)
-
-abbrev pub decreases-loop-i : goal.decreases-loop-i
-decreases-loop-i l = l.records - l.i
+abbrev pub invariant-loop-record : goal.invariant-loop-record
+invariant-loop-record l =
+    (goal.iterator-loop-record).can_next l.record-iterator × (goal.iterator-loop-record).is_finite l.record-iterator
+    × (chunks_exact_size l.record-iterator ≡ value_stride) × (given_value (chunks_exact_rest l.record-iterator) l.place.0 ≡ given_value l.values l.place.0)

@@ -1,18 +1,21 @@
+use Rattle.std.proofs.Common.{refl, sym, ◌∙◌}
+use Rattle.bitvec.specs.Smtlib.{bvadd, bvmul, bvult}
+use Rattle.bitvec.proofs.Base.{sub_is}
 use Rattle.btor2.specs.Value.{binary as binary_of}
-use Rattle.bitvec.specs.Smtlib.{bvadd, bvsub}
+use Rattle.evaluation_calls.proofs.Words.{bit_is}
 use Rattle.evaluation_calls.proofs.operators.binary.Goals as goal
 
 pub returns-in-Add : goal.returns-in-Add
 unfolding binary_of bvadd
-returns-in-Add c = rw c.in-Add.is c.wrapping_add_u64.ensures.value
+returns-in-Add c = rw c.in-Add.is refl
 
 pub returns-in-Sub : goal.returns-in-Sub
-unfolding binary_of bvsub bvadd
-returns-in-Sub c = rw (c.in-Sub.is, ← c.negated.ensures) c.wrapping_add_u64-in-Sub.ensures.value
+unfolding binary_of
+returns-in-Sub c = rw c.in-Sub.is (sym (sub_is 64 c.args.x c.args.y))
 
 pub returns-in-Mul : goal.returns-in-Mul
-unfolding binary_of
-returns-in-Mul c = rw c.in-Mul.is c.product.ensures
+unfolding binary_of bvmul
+returns-in-Mul c = rw c.in-Mul.is refl
 
 pub returns-in-Divu : goal.returns-in-Divu
 unfolding binary_of
@@ -35,5 +38,5 @@ unfolding binary_of
 returns-in-Srl c = rw c.in-Srl.is c.right.ensures
 
 pub returns-in-Ult : goal.returns-in-Ult
-unfolding binary_of
-returns-in-Ult c = rw c.in-Ult.is c.below.ensures
+unfolding binary_of bvult
+returns-in-Ult c = rw c.in-Ult.is (c.from.ensures ∙ bit_is _)

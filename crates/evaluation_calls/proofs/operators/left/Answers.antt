@@ -6,6 +6,6 @@ use Rattle.evaluation_calls.proofs.operators.left.Goals as goal
 pub returns-then-y-lt64 : goal.returns-then-y-lt64
 returns-then-y-lt64 c = sym (shl_raw c.args.x c.if-y-lt64.true)
 
-pub returns : goal.returns
+pub returns-else-y-lt64 : goal.returns-else-y-lt64
 unfolding bvshl
-returns c = rw (le-ltb _ _ c.if-y-lt64.false, bvshl)
+returns-else-y-lt64 c = rw (le-ltb _ _ c.if-y-lt64.false, bvshl)

@@ -1,9 +1,6 @@
-use Rattle.std.proofs.Common.{sym, arith}
-use Rattle.bitvec.proofs.Divide.{udiv_is, udiv_zero}
+use Rattle.std.proofs.Common.{◌∙◌}
+use Rattle.evaluation_calls.proofs.Words.{quotient_is}
 use Rattle.evaluation_calls.proofs.operators.quotient.Goals as goal
 
-pub returns-then-y-eq0 : goal.returns-then-y-eq0
-returns-then-y-eq0 c = rw c.if-y-eq0.true (sym (udiv_zero 64 c.args.x))
-
 pub returns : goal.returns
-returns c = sym (udiv_is 64 c.args.x (omega arith))
+returns c = c.unwrap_or.ensures ∙ quotient_is c.checked_div.result c.args.x c.args.y c.checked_div.ensures

@@ -1,9 +1,6 @@
-use Rattle.std.proofs.Common.{sym, arith}
-use Rattle.bitvec.proofs.Divide.{urem_is, urem_zero}
+use Rattle.std.proofs.Common.{◌∙◌}
+use Rattle.evaluation_calls.proofs.Words.{remainder_is}
 use Rattle.evaluation_calls.proofs.operators.remainder.Goals as goal
 
-pub returns-then-y-eq0 : goal.returns-then-y-eq0
-returns-then-y-eq0 c = rw c.if-y-eq0.true (sym (urem_zero c.args.x))
-
 pub returns : goal.returns
-returns c = sym (urem_is c.args.x (omega arith))
+returns c = c.unwrap_or.ensures ∙ remainder_is c.checked_rem.result c.args.x c.args.y c.checked_rem.ensures

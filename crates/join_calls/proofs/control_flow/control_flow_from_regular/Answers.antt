@@ -1,10 +1,6 @@
-use Rattle.builder.proofs.Gives.{kept}
 use Rattle.join.specs.ControlFlow.{control_flow_from_regular}
 use Rattle.join_calls.proofs.control_flow.control_flow_from_regular.Goals as goal
 
 pub returns : goal.returns
 unfolding control_flow_from_regular
 returns c = c.control_flow_from_any.ensures
-
-pub shape_of-list : goal.shape_of-list
-shape_of-list c = kept (returns c)

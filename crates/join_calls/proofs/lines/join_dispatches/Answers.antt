@@ -1,27 +1,19 @@
 -- The rest of the dispatches after what is done. Assumes nothing.
-use Prim.Native.Nat.{◌*◌, ◌-◌}
-use mathlib.Core.Path.{◌≡◌, refl}
-use native.Mathlib.Omega.{arith}
-use borrow.Author.Rules.{rules}
-use lib.ListN.{drop}
-use Rattle.edges.specs.Edges.{dispatch_stride}
-use Rattle.join.specs.Given.{dispatch_in}
-use Rattle.btor2_list.proofs.Records.{records_next, records_none}
+use Rattle.std.proofs.Common.{rules, ◌≡◌, ◌∷◌}
+use Rattle.std.specs.Slice.Iter.{chunks_exact_rest}
+use Rattle.join_calls.specs.Records.{dispatch_record, all_dispatches}
 use Rattle.join_calls.proofs.Going.{dispatching, dispatch_goes, dispatch_ends}
+use Rattle.join_calls.proofs.InChunks.{dispatches_next, dispatches_none}
 use Rattle.join_calls.proofs.lines.join_dispatches.Goals as goal
 
-pub loop-done-init : goal.loop-done-init
-loop-done-init c =
-    let a = c.args in
-    let all : a.number - 0 ≡ a.number = omega arith in
-    (refl, omega arith, rw all (dispatching _ _ _ _ _ _))
+pub loop-words-init : goal.loop-words-init
+loop-words-init c = (search rules, search rules, rw (c.into_iter-words-iterator.ensures.into_iter_gives, c.chunks_exact-words-items.ensures.rest) (dispatching _ _ _ _ _ _))
 
-pub loop-done-preserved : goal.loop-done-preserved
-loop-done-preserved c =
-    let a = c.args in
-    (search rules, omega arith, dispatch_goes _ _ _ c.join_dispatch-at.ensures (rw (records_next dispatch_stride dispatch_in a.number c.loop-done.done a.dispatches.now (omega arith)) at c.loop-done.invariant.2))
+pub loop-words-preserved : goal.loop-words-preserved
+loop-words-preserved c =
+    let taken : all_dispatches (chunks_exact_rest c.loop-words.words-iterator) ≡ dispatch_record c.dispatch_in-dispatch.result ∷ all_dispatches (chunks_exact_rest c.next.new.self) =
+    dispatches_next c.loop-words.words-iterator c.next.new.self c.in-Some.words (dispatch_record c.dispatch_in-dispatch.result) c.dispatch_in-dispatch.ensures c.loop-words.invariant.1 c.in-Some.ensures.steps in
+    (search rules, search rules, dispatch_goes _ _ _ (rw (c.register_node-register.ensures, c.dynamic_flag-dynamic.ensures) at c.control_flow_from_jalr-joined.ensures) (rw taken at c.loop-words.invariant.2))
 
 pub returns : goal.returns
-returns c =
-    let a = c.args in
-    dispatch_ends _ _ _ (rw (records_none dispatch_stride dispatch_in a.number c.loop-done.done (drop (c.loop-done.done * 2) a.dispatches.now) (omega arith)) at c.loop-done.invariant.2)
+returns c = dispatch_ends _ _ _ (rw (dispatches_none c.loop-words.words-iterator c.next.new.self c.loop-words.invariant.1 c.in-None.ensures.steps) at c.loop-words.invariant.2)

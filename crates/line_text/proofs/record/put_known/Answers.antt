@@ -2,8 +2,8 @@
 use Rattle.std.proofs.Common.{arith}
 use Rattle.text.proofs.Laws.{nothing, put_as}
 use Rattle.btor2_list.specs.Node.{op_of}
-use Rattle.btor2_list.proofs.NoKind.{no_kind}
-use Rattle.line_text.specs.Record.{line_text, printed_name, with_operands}
+use Rattle.btor2_list.proofs.NoKind.{outside}
+use Rattle.line_text.specs.Record.{line_text, with_operands}
 use Rattle.line_text.proofs.KnownKinds.{number_of, state_text}
 use Rattle.line_text.proofs.record.put_known.Goals as goal
 
@@ -11,7 +11,7 @@ pub returns-in-1 : goal.returns-in-1
 unfolding op_of line_text
 returns-in-1 c =
     let sort = c.requires (rw c.in-1.is) in
-    put_as c.put_row.ensures (rw (c.in-1.is, sort.1, number_of sort.0 c.args.line.sort sort.1))
+    put_as c.put_row.ensures (rw (c.in-1.is, sort.1, number_of sort.0 c.args.identified.line.sort sort.1))
 
 pub returns-in-2 : goal.returns-in-2
 unfolding op_of line_text
@@ -67,7 +67,7 @@ pub returns-in-14 : goal.returns-in-14
 unfolding op_of line_text
 returns-in-14 c =
     let sort = c.requires (rw c.in-14.is) in
-    put_as c.put_row-in-14.ensures (rw (c.in-14.is, sort.1, number_of sort.0 c.args.line.sort sort.1))
+    put_as c.put_row-in-14.ensures (rw (c.in-14.is, sort.1, number_of sort.0 c.args.identified.line.sort sort.1))
 
 pub returns-in-15 : goal.returns-in-15
 unfolding op_of line_text
@@ -77,45 +77,44 @@ pub returns-in-16 : goal.returns-in-16
 unfolding op_of line_text
 returns-in-16 c =
     let sort = c.requires (rw c.in-16.is) in
-    put_as c.put_row-in-16.ensures (rw (c.in-16.is, sort.1, number_of sort.0 c.args.line.sort sort.1))
+    put_as c.put_row-in-16.ensures (rw (c.in-16.is, sort.1, number_of sort.0 c.args.identified.line.sort sort.1))
 
 pub returns-in-17 : goal.returns-in-17
 unfolding op_of line_text
 returns-in-17 c =
     let sort = c.requires (rw c.in-17.is) in
-    put_as c.put_row-in-17.ensures (rw (c.in-17.is, sort.1, number_of sort.0 c.args.line.sort sort.1))
+    put_as c.put_row-in-17.ensures (rw (c.in-17.is, sort.1, number_of sort.0 c.args.identified.line.sort sort.1))
 
 pub returns-in-18 : goal.returns-in-18
 unfolding op_of line_text
 returns-in-18 c =
     let sort = c.requires (rw c.in-18.is) in
-    put_as c.put_row-in-18.ensures (rw (c.in-18.is, sort.1, number_of sort.0 c.args.line.sort sort.1))
+    put_as c.put_row-in-18.ensures (rw (c.in-18.is, sort.1, number_of sort.0 c.args.identified.line.sort sort.1))
 
 pub returns-in-19 : goal.returns-in-19
 returns-in-19 c =
-    let a = c.args in
+    let r = c.args.identified in
     let sort = c.requires (rw c.in-19.is) in
-    let text = state_text (printed_name a.host.now a.ours.now) a.line a.a.0 a.b.0 a.c.0 sort.0 c.in-19.is sort.1 in
-    put_as c.put_state.ensures text
+    put_as c.put_state.ensures (rw c.printed.ensures (state_text _ r.line r.a.0 r.b.0 r.c.0 sort.0 c.in-19.is sort.1))
 
 pub returns-in-20 : goal.returns-in-20
 unfolding op_of line_text
 returns-in-20 c =
     let sort = c.requires (rw c.in-20.is) in
-    put_as c.put_row-in-20.ensures (rw (c.in-20.is, sort.1, number_of sort.0 c.args.line.sort sort.1))
+    put_as c.put_row-in-20.ensures (rw (c.in-20.is, sort.1, number_of sort.0 c.args.identified.line.sort sort.1))
 
 pub returns-in-21 : goal.returns-in-21
 unfolding op_of line_text
 returns-in-21 c =
     let sort = c.requires (rw c.in-21.is) in
-    put_as c.put_name.ensures (rw (c.in-21.is, sort.1, number_of sort.0 c.args.line.sort sort.1))
+    put_as c.put_named.ensures (rw (c.printed-in-21.ensures, c.in-21.is, sort.1, number_of sort.0 c.args.identified.line.sort sort.1))
 
 pub returns-in-22 : goal.returns-in-22
 unfolding op_of line_text
-returns-in-22 c = put_as c.put_name-in-22.ensures (rw c.in-22.is)
+returns-in-22 c = put_as c.put_named-in-22.ensures (rw (c.printed-in-22.ensures, c.in-22.is))
 
 pub returns-in_default : goal.returns-in_default
 unfolding line_text
 returns-in_default c =
-    let a = c.args in
-    nothing (omega arith) (rw (no_kind (with_operands a.line a.a.0 a.b.0 a.c.0) c.in_default.in_default-own.rest))
+    let r = c.args.identified in
+    nothing (omega arith) (rw (outside (with_operands r.line r.a.0 r.b.0 r.c.0) (λ h. omega arith)))

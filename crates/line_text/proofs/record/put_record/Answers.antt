@@ -7,11 +7,5 @@ use Rattle.line_text.proofs.record.put_record.Goals as goal
 pub returns-then-unsorted : goal.returns-then-unsorted
 unfolding line_text
 returns-then-unsorted c =
-    let a = c.args in
-    nothing (omega arith) (rw (c.unsorted.ensures.unknown c.if-unsorted.true (with_operands a.line a.a.0 a.b.0 a.c.0) refl refl))
-
-pub put_known-requires : goal.put_known-requires
-put_known-requires c = c.unsorted.ensures.known c.if-unsorted.false
-
-pub returns : goal.returns
-returns c = c.put_known.ensures
+    let r = c.args.identified in
+    nothing (omega arith) (rw (c.unsorted.ensures.unknown c.if-unsorted.true (with_operands r.line r.a.0 r.b.0 r.c.0) refl refl))

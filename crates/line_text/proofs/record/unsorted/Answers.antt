@@ -1,21 +1,15 @@
 -- The two tests. Assumes nothing.
-use Rattle.std.proofs.Common.{◌≡◌, Bool, true, false, not, sym, refl, ap, ◌∙◌, true≢false}
+use Rattle.std.proofs.Common.{◌≡◌, Bool, true, not, true≢false, Option, Some, None, is_some, sym, refl, ap, ◌∙◌}
 use Rattle.btor2.specs.Sort.{sort_numbered}
+use Rattle.line_text.specs.OwnSort.{own_sort}
+use Rattle.line_text.proofs.KnownKinds.{unsorted_unknown}
 use Rattle.line_text.proofs.record.unsorted.Goals as goal
 
-not_false : (b : Bool) → not b ≡ false → b ≡ true
-not_false true e = refl
-not_false false e = absurd (true≢false e)
+none : {A : Type 0} (m : Option A) (b : Bool) → is_some m ≡ not b → b ≡ true → m ≡ None
+none (Some x) b e t = absurd (true≢false (e ∙ ap not t))
+none None b e t = refl
 
-not_true : (b : Bool) → not b ≡ true → b ≡ false
-not_true true e = absurd (true≢false (sym e))
-not_true false e = refl
-
-pub returns-then-own_sort : goal.returns-then-own_sort
-returns-then-own_sort c =
-    let s = c.is_sort in
-    let o = c.own_sort in
-    record { known = λ e own. s.ensures.0 (not_false s.result e); unknown = λ e l ek es. o.ensures.unknown c.if-own_sort.true l ek (ap sort_numbered es ∙ s.ensures.1 (not_true s.result e)) }
-
-pub returns : goal.returns
-returns c = record { known = λ e own. absurd (true≢false (sym own ∙ sym c.own_sort.ensures.own ∙ c.if-own_sort.false)); unknown = λ e. absurd (true≢false (sym e)) }
+pub returns-then-is_none-clause-unknown : goal.returns-then-is_none-clause-unknown
+returns-then-is_none-clause-unknown c e l ek es =
+    unsorted_unknown l (ap own_sort ek ∙ sym c.own_sort.ensures ∙ e)
+    (ap sort_numbered es ∙ sym c.sort_of.ensures ∙ none c.sort_of.result c.is_none.result c.is_none.ensures c.if-is_none.true)

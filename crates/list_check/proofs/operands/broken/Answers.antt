@@ -1,37 +1,26 @@
--- No line before this one is broken. Assumes nothing.
-use mathlib.Core.Path.{◌≡◌, refl, sym, ◌∙◌}
+-- Some record is broken. Assumes nothing.
+use Prim.Native.Nat.{ℕ, ◌≤◌, ◌<◌}
+use mathlib.Core.Path.{refl, sym, ◌∙◌}
+use mathlib.Core.Bool.{Bool, true, cond}
 use native.Mathlib.Omega.{arith}
-use borrow.Author.Tests.{lt-ltb, le-ltb}
 use lib.ListN.{length}
-use Rattle.btor2_list.specs.Record.{capacity}
-use Rattle.list_check.specs.Lines.{some}
-use Rattle.list_check.proofs.Some.{some_hit, some_on}
+use borrow.Author.Tests.{lt-ltb, le-ltb}
+use Rattle.std.proofs.Common.{rules}
+use Rattle.std.proofs.lemmas.Iterator.{YieldsList-from_range}
+use Rattle.std.proofs.lemmas.Iterator.Search.{any_from_yields_List}
+use Rattle.btor2_list.specs.Record.{capacity, holds}
+use Rattle.list_check.proofs.Some.{any_below}
 use Rattle.list_check.proofs.Lines.{by_records}
 use Rattle.list_check.specs.OperandsOut.{record_broken}
 use Rattle.list_check.proofs.operands.broken.Goals as goal
 
-pub returns-then-capacity-lines : goal.returns-then-capacity-lines
-returns-then-capacity-lines c = rw (lt-ltb _ _ (rw c.capacity.ensures at c.if-capacity-lines.true))
-
-pub loop-i-init : goal.loop-i-init
-unfolding some
-loop-i-init c = (rw c.capacity.ensures at c.if-capacity-lines.false, omega arith, refl)
-
-pub returns-then-line_broken : goal.returns-then-line_broken
-returns-then-line_broken c =
+pub returns-else-capacity-lines : goal.returns-else-capacity-lines
+returns-else-capacity-lines c =
     let a = c.args in
-    rw (le-ltb (capacity (length a.list.now)) a.lines c.loop-i.invariant.0)
-    (sym (by_records a.list.now a.lines c.loop-i.invariant.0
-    ∙ some_hit a.lines (record_broken a.list.now) c.loop-i.i (omega arith) (sym c.line_broken.ensures ∙ c.if-line_broken.true)))
-
-pub loop-i-preserved : goal.loop-i-preserved
-loop-i-preserved c =
-    let a = c.args in
-    (c.loop-i.invariant.0, omega arith, some_on c.loop-i.i (record_broken a.list.now) c.loop-i.invariant.2 (sym c.line_broken.ensures ∙ c.if-line_broken.false))
-
-pub returns : goal.returns
-returns c =
-    let a = c.args in
-    let all : c.loop-i.i ≡ a.lines = omega arith in
-    rw (le-ltb (capacity (length a.list.now)) a.lines c.loop-i.invariant.0)
-    (sym (by_records a.list.now a.lines c.loop-i.invariant.0 ∙ rw all at c.loop-i.invariant.2))
+    let ws = a.list.now in
+    let test : ℕ → Bool = λ i. cond (holds ws i) (record_broken ws i) true in
+    let room : a.lines ≤ capacity (length ws) = omega arith in
+    rw (le-ltb _ _ room)
+    (any_from_yields_List test _ _ _ c.any.ensures.ran (YieldsList-from_range 0 a.lines a.lines refl (omega arith)) (λ x b q h. search rules)
+    ∙ any_below a.lines test (record_broken ws) (λ p l. let there : p < capacity (length ws) = omega arith in rw (lt-ltb _ _ there))
+    ∙ sym (by_records ws a.lines room))

@@ -1,34 +1,23 @@
--- `letters` meets its contract. All bytes of the rest are letters just where all bytes are.
--- Assumes nothing.
-use mathlib.Core.Path.{refl, sym, ◌∙◌}
-use borrow.Author.Rules.{rules}
+-- No byte at all, or all letters. Assumes nothing.
+use Rattle.std.proofs.Common.{◌≡◌, ℕ, false, eqb, List, length, sym, ◌∙◌, lt-ltb, arith, rules}
+use borrow.Author.Tests.{tests, eqb-true, eqb-false}
+use Rattle.std.proofs.lemmas.Iterator.{YieldsList-from_slice}
+use Rattle.std.proofs.lemmas.Iterator.Search.{all_from_yields_List}
+use Rattle.listing_input.specs.Text.{all}
 use Rattle.listing_input.specs.Line.{letter, letters}
-use Rattle.listing_input.proofs.Steps.{all_yes, all_no, all_end, letters_yes, letters_no}
+use Rattle.listing_input.proofs.Chains.{all_is}
 use Rattle.listing_input.proofs.line.letters.Goals as goal
 
-pub returns-then-s-eq0 : goal.returns-then-s-eq0
+some : (s : List ℕ) → eqb (length s) 0 ≡ false → all letter s ≡ letters s
 unfolding letters
-returns-then-s-eq0 c = rw c.if-s-eq0.true
+some s e = let n = eqb-false _ _ e in rw (lt-ltb 0 (length s) (omega arith))
 
-pub loop-i-init : goal.loop-i-init
-loop-i-init c = (search rules, refl)
-
-pub returns-then-not-letter : goal.returns-then-not-letter
-returns-then-not-letter c =
+pub returns-then-not-is_empty : goal.returns-then-not-is_empty
+returns-then-not-is_empty c =
     let s = c.args.s.now in
-    let i = c.loop-i.i in
-    let e = all_no s i c.loop-i-test.true letter (sym c.letter.ensures ∙ c.if-not-letter.true) in
-    letters_no s (sym c.loop-i.invariant.1 ∙ e)
+    all_from_yields_List letter _ _ c.all.result c.all.ensures.ran (YieldsList-from_slice s cc) (λ x b q k. search (rules, tests))
+    ∙ all_is letter s ∙ some s (sym c.is_empty.ensures ∙ c.if-not-is_empty.true)
 
-pub loop-i-preserved : goal.loop-i-preserved
-loop-i-preserved c =
-    let s = c.args.s.now in
-    let i = c.loop-i.i in
-    let e = all_yes s i c.loop-i-test.true letter (sym c.letter.ensures ∙ c.if-not-letter.false) in
-    (search rules, sym e ∙ c.loop-i.invariant.1)
-
-pub returns : goal.returns
-returns c =
-    let s = c.args.s.now in
-    let e = all_end s c.loop-i.i c.loop-i-test.false letter in
-    letters_yes s c.if-s-eq0.false (sym c.loop-i.invariant.1 ∙ e)
+pub returns-else-not-is_empty : goal.returns-else-not-is_empty
+unfolding letters
+returns-else-not-is_empty c = let e : length c.args.s.now ≡ 0 = eqb-true _ _ (sym c.is_empty.ensures ∙ c.if-not-is_empty.false) in rw (c.if-not-is_empty.false, e)

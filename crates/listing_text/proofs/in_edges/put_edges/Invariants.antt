@@ -1,12 +1,14 @@
 -- The records so far are put. Assumes nothing.
-use Prim.Native.Nat.{◌-◌, ◌≤◌}
+use Rattle.std.proofs.Common.{length}
+use Rattle.edges.specs.Edges.{edge_stride}
 use Rattle.line_text.specs.Line.{nodes}
 use Rattle.text.specs.Put.{Put}
 use Rattle.listing_text.specs.Remarks.{edges_text}
+use Rattle.listing_text.proofs.Records.{Passed}
 use Rattle.listing_text.proofs.in_edges.put_edges.Given as goal
 
-abbrev pub invariant-loop-k : goal.invariant-loop-k
-invariant-loop-k l = (l.k ≤ l.count) × Put l.initial.out l.at (edges_text (nodes l.list l.lines) l.records l.k) l.out l.p
-
-abbrev pub decreases-loop-k : goal.decreases-loop-k
-decreases-loop-k l = l.count - l.k
+abbrev pub invariant-loop-record : goal.invariant-loop-record
+invariant-loop-record l = record {
+  passed : Passed edge_stride l.count l.records (length l.yielded) l.record-iterator;
+  put : Put l.initial.out l.at (edges_text (nodes l.list l.lines) l.records (length l.yielded)) l.out l.p;
+}

@@ -2,8 +2,8 @@
 use Rattle.lowering_calls.specs.Apart.{accepted_with}
 use Rattle.lowering_calls.proofs.apart.accept.Goals as goal
 
-pub returns : goal.returns
+pub returns-clause-is : goal.returns-clause-is
 unfolding accepted_with
-returns c =
+returns-clause-is c =
     let run = rw c.name_for-name.ensures at c.lower_lines-m.ensures in
-    rw (← run, ← c.requires.is, ← c.counts_after-counts.ensures, ← c.go_to_instructions.ensures, ← c.put_jalr.ensures.names, ← c.put_jalr.ensures.dispatches, ← c.put_jalr.ensures.bads)
+    rw (← run, ← c.requires.is, ← c.counts_after.ensures, ← c.go_to_instructions.ensures, c.put_jalr.ensures.is)

@@ -1,14 +1,11 @@
 use Rattle.models.specs.Kinds.{link}
-use Rattle.builder.proofs.Gives.{stop, kept}
+use Rattle.builder.proofs.Builds.{stop}
 use Rattle.models_immediate.proofs.constants.link.Goals as goal
 
-pub returns-then-rd_is_zero : goal.returns-then-rd_is_zero
+pub returns-then-i : goal.returns-then-i
 unfolding link
-returns-then-rd_is_zero c = rw c.if-rd_is_zero.true stop
+returns-then-i c f = rw c.if-i.true stop
 
 pub returns : goal.returns
 unfolding link
-returns c = rw c.if-rd_is_zero.false c.constant.ensures
-
-pub shape_of-list : goal.shape_of-list
-shape_of-list c = kept (returns c)
+returns c f = rw c.if-i.false (c.constant.ensures f)

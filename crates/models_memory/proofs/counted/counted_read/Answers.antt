@@ -1,5 +1,5 @@
 use Rattle.models.specs.Counters.{counted_read}
-use Rattle.builder.proofs.Gives.{on, stop, kept}
+use Rattle.builder.proofs.Builds.{on, stop}
 use Rattle.models_memory.proofs.counted.counted_read.Goals as goal
 
 pub returns : goal.returns
@@ -9,10 +9,7 @@ returns c =
     on _ c.new_bin-next.ensures (
     on _ c.new_bin-above.ensures (
     on _ c.new_ite-update.ensures (
-    on _ c.new_ite-m.ensures (
+    on _ c.new_ite-maximum.ensures (
     on _ c.new_write-cell.ensures (
-    on _ c.new_ite-c.ensures (
-    on _ c.new_read-word.ensures stop)))))))
-
-pub shape_of-list : goal.shape_of-list
-shape_of-list c = kept (returns c)
+    on _ c.new_ite-counter.ensures (
+    on _ c.new_read-node.ensures stop)))))))

@@ -1,5 +1,5 @@
 use Rattle.models.specs.Counters.{model_s}
-use Rattle.builder.proofs.Gives.{on, stop, kept}
+use Rattle.builder.proofs.Builds.{on, stop}
 use Rattle.models_memory.proofs.stores.model_s.Goals as goal
 
 pub returns : goal.returns
@@ -11,12 +11,9 @@ returns c =
     on _ c.new_const-bits.ensures (
     on _ c.bit_offset-amount.ensures (
     on _ c.new_bin-place.ensures (
-    on _ c.new_not_word-rest.ensures (
+    on _ c.new_not-rest.ensures (
     on _ c.new_bin-value.ensures (
-    on _ c.new_and_word-new.ensures (
-    on _ c.new_and_word-old.ensures (
+    on _ c.new_and-new.ensures (
+    on _ c.new_and-old.ensures (
     on _ c.new_or-both.ensures (
-    on _ c.new_write-write.ensures stop)))))))))))
-
-pub shape_of-list : goal.shape_of-list
-shape_of-list c = kept (returns c)
+    on _ c.new_write.ensures stop)))))))))))

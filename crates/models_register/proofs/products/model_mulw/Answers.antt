@@ -1,5 +1,5 @@
 use Rattle.models.specs.Kinds.{model_mulw}
-use Rattle.builder.proofs.Gives.{on, stop, kept}
+use Rattle.builder.proofs.Builds.{on, stop}
 use Rattle.models_register.proofs.products.model_mulw.Goals as goal
 
 pub returns : goal.returns
@@ -10,7 +10,4 @@ returns c =
     on _ c.new_sext_by-right.ensures (
     on _ c.new_bin-product.ensures (
     on _ c.new_sext_by-x.ensures (
-    on _ c.check_multiplication_overflow-overflow.ensures stop)))))
-
-pub shape_of-list : goal.shape_of-list
-shape_of-list c = kept (returns c)
+    on _ c.checked-f.ensures stop)))))

@@ -1,43 +1,37 @@
--- Each arm's number names its kind; the last has ruled them all out. Assumes nothing.
-use Rattle.std.proofs.Common.{[], ◌∷◌}
-use Rattle.riscv.proofs.Numbered.{none_of}
+-- Each arm is a row of the table, and any other kind has none. Assumes nothing.
+use Rattle.std.proofs.Common.{⊎_elim}
+use Rattle.riscv.specs.declared.Kind.TheVariants.{Lui, Auipc, Srai, Slliw, Srliw, Sraiw, Jal, Jalr}
 use Rattle.riscv.specs.Constant.{constant_of}
+use Rattle.riscv.proofs.Numbered.{apart}
 use Rattle.riscv_rows.proofs.constant.constant_of.Goals as goal
 
-pub returns-in-0 : goal.returns-in-0
+pub returns-in-Lui : goal.returns-in-Lui
 unfolding constant_of
-returns-in-0 c = rw c.in-0.is c.upper_immediate.ensures
+returns-in-Lui c = rw (← c.at.ensures, c.in-Lui.is) c.upper_immediate.ensures
 
-pub returns-in-1 : goal.returns-in-1
+pub returns-in-Auipc : goal.returns-in-Auipc
 unfolding constant_of
-returns-in-1 c = rw (c.in-1.is, ← c.upper_immediate-in-1.ensures) c.wrapping_add_u64.ensures.value
+returns-in-Auipc c = rw (← c.at.ensures, c.in-Auipc.is, c.upper_immediate-in-Auipc.ensures)
 
-pub returns-in-19 : goal.returns-in-19
+pub returns-in-Srai : goal.returns-in-Srai
 unfolding constant_of
-returns-in-19 c = rw c.in-19.is
+returns-in-Srai c = rw (← c.at.ensures, c.in-Srai.is)
 
-pub returns-in-21 : goal.returns-in-21
+pub returns-in-Slliw : goal.returns-in-Slliw
 unfolding constant_of
-returns-in-21 c = rw c.in-21.is c.wrapping_add_u64-in-21.ensures.value
+returns-in-Slliw c = rw (← c.at.ensures) (⊎_elim (λ e. rw e) (λ e. rw e) c.in-Slliw.is)
 
-pub returns-in-22 : goal.returns-in-22
+pub returns-in-Sraiw : goal.returns-in-Sraiw
 unfolding constant_of
-returns-in-22 c = rw c.in-22.is c.wrapping_add_u64-in-22.ensures.value
+returns-in-Sraiw c = rw (← c.at.ensures, c.in-Sraiw.is)
 
-pub returns-in-23 : goal.returns-in-23
+pub returns-in-Jal : goal.returns-in-Jal
 unfolding constant_of
-returns-in-23 c = rw c.in-23.is
-
-pub returns-in-47 : goal.returns-in-47
-unfolding constant_of
-returns-in-47 c = rw c.in-47.is c.wrapping_add_u64-in-47.ensures.value
-
-pub returns-in-48 : goal.returns-in-48
-unfolding constant_of
-returns-in-48 c = rw c.in-48.is c.wrapping_add_u64-in-48.ensures.value
+returns-in-Jal c = rw (← c.at.ensures) (⊎_elim (λ e. rw e) (λ e. rw e) c.in-Jal.is)
 
 pub returns-in_default : goal.returns-in_default
 unfolding constant_of
 returns-in_default c =
-    let no = none_of (48 ∷ 47 ∷ 23 ∷ 22 ∷ 21 ∷ 19 ∷ 1 ∷ 0 ∷ []) c.args.kind c.in_default.in_default-own.rest in
-    rw (no 0 tt, no 1 tt, no 19 tt, no 21 tt, no 22 tt, no 23 tt, no 47 tt, no 48 tt)
+    let k = c.at.result in
+    let other = c.in_default in
+    rw (← c.at.ensures, apart k Lui other.not-Lui, apart k Auipc other.not-Auipc, apart k Srai other.not-Srai, apart k Slliw other.not-Slliw, apart k Srliw other.not-Srliw, apart k Sraiw other.not-Sraiw, apart k Jal other.not-Jal, apart k Jalr other.not-Jalr)

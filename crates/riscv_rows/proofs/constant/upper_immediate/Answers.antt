@@ -7,6 +7,6 @@ pub returns-then-field-lt524288 : goal.returns-then-field-lt524288
 unfolding upper
 returns-then-field-lt524288 c = rw (lt-ltb _ _ c.if-field-lt524288.true)
 
-pub returns : goal.returns
+pub returns-else-field-lt524288 : goal.returns-else-field-lt524288
 unfolding upper
-returns c = rw (le-ltb _ (2 ^ 19) c.if-field-lt524288.false)
+returns-else-field-lt524288 c = rw (le-ltb _ (2 ^ 19) c.if-field-lt524288.false)

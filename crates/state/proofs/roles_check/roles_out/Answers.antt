@@ -12,27 +12,23 @@ use Rattle.state.proofs.Sorts.{out_not, out_is}
 use Rattle.state.proofs.roles_check.roles_out.Goals as goal
 
 pub loop-role-init : goal.loop-role-init
-loop-role-init c = (omega arith, search rules, refl)
-
-pub role_out-requires : goal.role_out-requires
-role_out-requires c = search rules
+loop-role-init c = (search rules, refl)
 
 pub returns-then-role_out : goal.returns-then-role_out
 returns-then-role_out c =
     let a = c.args in
-    sym (ap not (sym c.loop-role.invariant.2 ∙ fit_not a.list.now a.lines a.roles c.loop-role.role (omega arith)
-    (out_not c.role_out.result (value_sort (look_at a.list.now a.lines (role a.roles c.loop-role.role).0)) c.role_sort-sort.result (sort_number (role_sort c.loop-role.role)) c.role_out.ensures c.role_sort-sort.ensures.is c.if-role_out.true)))
+    sym (ap not (sym c.loop-role.invariant.1 ∙ fit_not a.list.now a.lines a.roles c.loop-role.role (omega arith)
+    (out_not c.role_out.result (value_sort (look_at a.list.now a.lines (role a.roles c.loop-role.role).0)) (sort_number c.role_sort.result) (sort_number (role_sort c.loop-role.role)) c.role_out.ensures (ap sort_number c.role_sort.ensures.is) c.if-role_out.true)))
 
 pub loop-role-preserved : goal.loop-role-preserved
 loop-role-preserved c =
     let a = c.args in (
-      omega arith,
-      c.loop-role.invariant.1,
+      c.loop-role.invariant.0,
       fit_on a.list.now a.lines a.roles c.loop-role.role (omega arith)
-          (out_is c.role_out.result (value_sort (look_at a.list.now a.lines (role a.roles c.loop-role.role).0)) c.role_sort-sort.result (sort_number (role_sort c.loop-role.role)) c.role_out.ensures c.role_sort-sort.ensures.is c.if-role_out.false) ∙ c.loop-role.invariant.2,
+          (out_is c.role_out.result (value_sort (look_at a.list.now a.lines (role a.roles c.loop-role.role).0)) (sort_number c.role_sort.result) (sort_number (role_sort c.loop-role.role)) c.role_out.ensures (ap sort_number c.role_sort.ensures.is) c.if-role_out.false) ∙ c.loop-role.invariant.1,
     )
 
 pub returns : goal.returns
 returns c =
     let a = c.args in
-    sym (ap not (sym c.loop-role.invariant.2 ∙ fit_end a.list.now a.lines a.roles c.loop-role.role (omega arith)))
+    sym (ap not (sym c.loop-role.invariant.1 ∙ fit_end a.list.now a.lines a.roles c.loop-role.role (omega arith)))

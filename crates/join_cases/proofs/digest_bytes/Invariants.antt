@@ -1,6 +1,0 @@
--- Places rise to the length. Assumes nothing.
-use Rattle.std.proofs.Common.{◌-◌, length}
-use Rattle.join_cases.proofs.digest_bytes.Given as goal
-
-abbrev pub decreases-loop-at : goal.decreases-loop-at
-decreases-loop-at l = length l.bytes - l.at

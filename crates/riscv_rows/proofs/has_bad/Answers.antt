@@ -1,5 +1,0 @@
--- Both tests of the definition. Assumes nothing.
-use Rattle.riscv_rows.proofs.has_bad.Goals as goal
-
-pub returns : goal.returns
-returns c = rw (← c.is_jalr.ensures)

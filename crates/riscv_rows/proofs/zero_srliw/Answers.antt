@@ -1,7 +1,0 @@
--- A kind is told by its number. Assumes nothing.
-use mathlib.Core.Bool.{or-false}
-use Rattle.riscv.proofs.Numbered.{told}
-use Rattle.riscv_rows.proofs.zero_srliw.Goals as goal
-
-pub returns : goal.returns
-returns c = rw (told _ 22 tt, or-false)

@@ -1,5 +1,0 @@
--- The lines and their next identifier, or another count. Assumes nothing.
-use Rattle.state.proofs.room.counts_out.Goals as goal
-
-pub returns : goal.returns
-returns c = cc
