@@ -13,7 +13,7 @@ pub struct Nid(pub u64);
 #[derive(Clone, Copy)]
 pub struct NodeRef(pub usize);
 
-// A sort, and the number that it is printed as.
+// A sort, and the number that it is printed as, to be laid beside a file's sort lines (document 02, R-5).
 #[derive(Clone, Copy, PartialEq, Eq)]
 pub enum NodeType {
     Bit = 1,
@@ -88,9 +88,21 @@ pub fn bitsize(sort: NodeType) -> u64
     }
 }
 
-// By how many bits `uext` extends a value of a sort to a Word. None from Memory is printed.
+// By how many bits `uext` extends a value of a sort to a Word: a case for each, to be laid beside a file's sort lines (document 02, R-5). None from
+// Memory is printed.
 pub fn padding(from: NodeType) -> u64
     ensures { result ≡ padding from }
 {
-    bitsize(NodeType::Word) - bitsize(from)
+    match from {
+        NodeType::Bit => 63,
+        NodeType::Word => 0,
+        NodeType::Memory => 64,
+        NodeType::Input1Byte => 56,
+        NodeType::Input2Byte => 48,
+        NodeType::Input3Byte => 40,
+        NodeType::Input4Byte => 32,
+        NodeType::Input5Byte => 24,
+        NodeType::Input6Byte => 16,
+        NodeType::Input7Byte => 8,
+    }
 }
