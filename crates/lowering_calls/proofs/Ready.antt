@@ -5,7 +5,6 @@ use mathlib.Core.Path.{◌≡◌}
 use mathlib.Core.Bool.{Bool, true, false}
 use native.Mathlib.Omega.{arith}
 use borrow.Author.Tests.{ne_eqb}
-use Rattle.std.specs.Prelude.{Result, Ok, Err, IfOk}
 use lib.ListN.{length}
 use Rattle.btor2.specs.declared.NodeRef.{NodeRef}
 use Rattle.btor2_list.specs.Limits.{most_nid}
@@ -18,9 +17,6 @@ use Rattle.state.specs.declared.roles.Reads.{Reads}
 use Rattle.state.specs.declared.room.Room.{Room}
 use Rattle.state.specs.Room.{room_of, counts_out}
 use Rattle.state.proofs.Within.{within}
-use Rattle.refusals.specs.declared.Refusal.{Refusal}
-use Rattle.refusals.specs.Refusal.{refused_with}
-use Rattle.lowering_refusals.specs.declared.Weighed.{Weighed}
 use Rattle.lowering_refusals.specs.Refusal.{needs, tests_of_record, refusal_given}
 use Rattle.lowering_refusals.proofs.Accepted.{counts_in, roomy}
 use Rattle.lowering.specs.Lines.{program_from}
@@ -45,7 +41,7 @@ module _ (fits : Bool) (l : Lent) (t : Tally) (c : Counts) (i : Instruction) (ad
   record_weighed h e = rw (h, e)
 
   -- the room is that of lists, whose lengths fit
-  ready : 0 ≡ refusal → (needed : Room) → needed ≡ needs i address → length l.names < 2 ^ 64 → length l.edges < 2 ^ 64 → length l.dispatches < 2 ^ 64 → length l.bads < 2 ^ 64 → Ready t c needed i address
+  pub ready : 0 ≡ refusal → (needed : Room) → needed ≡ needs i address → length l.names < 2 ^ 64 → length l.edges < 2 ^ 64 → length l.dispatches < 2 ^ 64 → length l.bads < 2 ^ 64 → Ready t c needed i address
   unfolding room_of
   ready none needed is hn he hd hb =
       let accepted : refusal ≡ 0 = cc in
@@ -55,11 +51,6 @@ module _ (fits : Bool) (l : Lent) (t : Tally) (c : Counts) (i : Instruction) (ad
         added = rw is (record { names = omega (arith, r.names); edges = omega (arith, r.edges); dispatches = omega (arith, r.dispatches); bads = omega (arith, r.bads) });
         is = is;
       }
-
-  pub weighed_ready : (r : Result Weighed Refusal) → refused_with r ≡ refusal → IfOk r (λ w. w.needs ≡ needs i address)
-      → length l.names < 2 ^ 64 → length l.edges < 2 ^ 64 → length l.dispatches < 2 ^ 64 → length l.bads < 2 ^ 64 → IfOk r (λ w. Ready t c w.needs i address)
-  weighed_ready (Ok w) none is hn he hd hb = ready none w.needs is hn he hd hb
-  weighed_ready (Err r) is needed hn he hd hb = tt
 
   module _ (e : Reads) where
     pub refused_is : (n : ℕ) → (n ≡ 0 → ⊥) → n ≡ refusal → refused_apart n l t c e ≡ call_apart fits l t c e i address flag

@@ -81,13 +81,15 @@ fn refuse(lent: &Lent, before: Before, call: LowerCall, fits: bool) -> Result<We
         tally,
         counts,
     };
-    weigh(
+    let weighed = weigh(
         lent.list,
         storage,
         call.instruction,
         call.address,
         call.flag,
-    )
+    );
+    weighed.accepted?;
+    Ok(weighed)
 }
 
 // What an accepted call does.

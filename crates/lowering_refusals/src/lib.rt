@@ -1,8 +1,8 @@
 // What an instruction needs of lent storage, and the refusals of a lowering but 9 and 13, whose tests are state's.
 #![tactic(auto)]
 
-ghost use Rattle.std.specs.Prelude.{◌≡◌, IfOk, cond, not, ◌&&◌, eqb, ltb, length, ◌+◌};
-ghost use Rattle.lowering_refusals.specs.Refusal.{needs_of, needs as needs_at, room_out, tests_of_record};
+ghost use Rattle.std.specs.Prelude.{◌≡◌, [], ◌∷◌, cond, not, ◌&&◌, eqb, ltb, length, ◌+◌};
+ghost use Rattle.lowering_refusals.specs.Refusal.{needs_of, needs as needs_at, flag_out, room_out, tests_of_record};
 ghost use Rattle.btor2.specs.declared.NodeType.TheVariants.{Bit};
 ghost use Rattle.btor2.specs.Sort.{sort_number};
 ghost use Rattle.btor2_list.specs.Look.{look_at};
@@ -12,7 +12,7 @@ ghost use Rattle.text.specs.BadName.{bad_name};
 ghost use Rattle.riscv.specs.Class.{class as class_at, class_needs_flag};
 ghost use Rattle.riscv.specs.Zeros.{zeros_of};
 ghost use Rattle.riscv.specs.Kind.{kind_at};
-ghost use Rattle.riscv.specs.Refusal.{first};
+ghost use Rattle.riscv.specs.Refusal.{refusal, first};
 
 use btor2::{BIT, NodeRef};
 use btor2_list::MOST_LINES;
@@ -22,9 +22,10 @@ use riscv::{Class, Instruction, Zeros};
 use riscv_rows::{class_of, has_bad, has_dispatch, line_count, needs_flag, zeros_of};
 use state::{Counts, Room};
 
-// What an instruction that is not refused needs of lent storage, its kind's class, and which of its fields are zero.
+// What a record needs of lent storage, its kind's class, which of its fields are zero, and whether it is refused.
 #[derive(Clone, Copy)]
 pub struct Weighed {
+    pub accepted: Result<(), Refusal>,
     pub needs: Room,
     pub class: Class,
     pub zeros: Zeros,
@@ -38,34 +39,47 @@ pub struct Storage {
     pub counts: Counts,
 }
 
-// The first of 1 to 6, 7 and 8 that applies to a record and what is lent for it, or what the record needs.
-pub fn weigh(
-    list: &[u64],
-    storage: Storage,
-    i: Instruction,
-    address: u64,
-    flag: NodeRef,
-) -> Result<Weighed, Refusal>
-    ensures refusal { refused_with result ≡ first (tests_of_record list.now storage.room storage.tally storage.counts i address flag.0) }
-    ensures needs { IfOk result (λ w. w.needs ≡ needs_at i address) }
-    ensures class { IfOk result (λ w. w.class ≡ class_at (kind_at i.kind)) }
-    ensures zeros { IfOk result (λ w. w.zeros ≡ zeros_of i) }
+// Weighs a record, refused or not; it is refused with the first of 1 to 6, 7 and 8 that applies to it and what is lent for it.
+pub fn weigh(list: &[u64], storage: Storage, i: Instruction, address: u64, flag: NodeRef) -> Weighed
+    ensures refusal { refused_with result.accepted ≡ first (tests_of_record list.now storage.room storage.tally storage.counts i address flag.0) }
+    ensures needs { result.needs ≡ needs_at i address }
+    ensures class { result.class ≡ class_at (kind_at i.kind) }
+    ensures zeros { result.zeros ≡ zeros_of i }
 {
-    riscv_rows::check(i)?;
     let class = class_of(i.kind);
     let zeros = zeros_of(i);
-    if flag_out(list, storage.tally.lines, class, zeros, flag) {
-        return Err(Refusal::NoFlag);
-    }
     let needs = needs_of(i.kind, class, zeros, address);
-    if room_out(storage, needs) {
-        return Err(Refusal::NoRoom);
-    }
-    Ok(Weighed {
+    let accepted = refuse_record(list, storage, needs, class, zeros, i, flag);
+    Weighed {
+        accepted,
         needs,
         class,
         zeros,
-    })
+    }
+}
+
+// The first of 1 to 6, 7 and 8 that applies, by what the record needs, its kind's class and its zero fields.
+fn refuse_record(
+    list: &[u64],
+    storage: Storage,
+    needs: Room,
+    class: Class,
+    z: Zeros,
+    i: Instruction,
+    flag: NodeRef,
+) -> Result<(), Refusal>
+    requires class { class ≡ class_at (kind_at i.kind) }
+    requires zeros { z ≡ zeros_of i }
+    ensures { refused_with result ≡ first ((not (eqb (refusal i) 0), refusal i) ∷ (flag_out list.now storage.tally.lines i flag.0, 7) ∷ (room_out storage.room storage.tally storage.counts needs, 8) ∷ []) }
+{
+    riscv_rows::check(i)?;
+    if flag_out(list, storage.tally.lines, class, z, flag) {
+        return Err(Refusal::NoFlag);
+    }
+    if room_out(storage, needs) {
+        return Err(Refusal::NoRoom);
+    }
+    Ok(())
 }
 
 // What an instruction appends.
