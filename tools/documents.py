@@ -12,7 +12,7 @@ Of README.md and docs/ (CLAIMS, TRUST, SORTS, DIFFERENCES, DECISIONS and SPEED; 
 - docs/CLAIMS.md names every edit, and README's map every crate, each after those that it depends on;
 - the table of docs/SORTS.md is that of the definition;
 - docs/TRUST.md lists every file of definitions once, with its lines; the files that it calls private are used by no other file of
-  definitions and by no contract of a public function, but for the programs that run cases;
+  definitions and by no contract of a public function or method, but for the programs that run cases;
 and of the definitions that no name is defined in two files, but for those of TWICE. It proves nothing and needs Python alone.
 """
 import collections
@@ -184,14 +184,14 @@ class Tree:
                 left += self.uses.get(one, ())
         return seen & self.crates
 
-    def case_crates(self):
-        """The programs that run cases, and the crates that only they use."""
+    def case_crates(self, entries):
+        """The programs that run cases, and the crates that only they use, but for the entries."""
         cases = {crate for crate in self.uses if crate.endswith("_cases")}
         while True:
             more = {
                 crate
                 for crate in self.uses
-                if crate not in cases and (users := {one for one in self.uses if crate in self.uses[one]}) and users <= cases
+                if crate not in cases and crate not in entries and (users := {one for one in self.uses if crate in self.uses[one]}) and users <= cases
             }
             if not more:
                 return cases
@@ -314,6 +314,11 @@ def edit_errors(tree, counted):
                 yield CLAIMS, 0, f"the edit {edit} is not named for each of {' and '.join(sorted(crates))}"
 
 
+def entry_crates(tree):
+    """The crates that README's map has in bold."""
+    return set(re.findall(r"^\| \*\*(\w+)\*\* \|", tree.text(README), re.M))
+
+
 def map_rows(tree):
     """The crates of each row of README's map, with its line number."""
     inside = False
@@ -416,20 +421,20 @@ def used_file(line):
 
 
 def contract_errors(tree, private, counted):
-    """The contracts of public functions that take a name from a private file."""
-    cases = tree.case_crates()
+    """The contracts of public functions and methods that take a name from a private file."""
+    cases = tree.case_crates(entry_crates(tree))
     for path in sorted(tree.root.glob("crates/*/src/*.rt")):
         if path.parent.parent.name in cases:
             continue
         name = str(path.relative_to(tree.root))
-        taken, public = {}, False
+        taken, public, indent = {}, False, ""
         for number, line in lines_of(tree, name):
             if (file := used_file(line)) in private:
-                taken |= {word: file for word in re.findall(r"[\w'-]+", line.partition("{")[2])}
-            if re.match(r"(pub(\(crate\))? )?fn ", line):
-                public = line.startswith("pub fn ")
+                taken |= {word: file for word in re.findall(r"[\w'-]+", line.partition("{")[2] or line.partition(" as ")[2])}
+            if head := re.match(r'( *)(pub(?:\(crate\))? )?(?:extern "C" )?fn ', line):
+                indent, public = head[1], head[2] == "pub "
                 counted["contracts"] += public
-            if line in ("{", "}"):
+            if line in (indent + "{", indent + "}"):
                 public = False
             for word in re.findall(r"[\w'-]+", line) if public else ():
                 if word in taken:

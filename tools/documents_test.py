@@ -187,6 +187,14 @@ WRONG = [
      ["crates/calls_made/specs/Call.antt:1: calls_made/Inside is used here and is private by docs/TRUST.md"]),
     ("a private file that a public contract cites", "crates/calls_made/src/lib.rt", "fn part", "pub fn part",
      ["crates/calls_made/src/lib.rt:9: a public contract cites inside of calls_made/Inside, which is private by docs/TRUST.md"]),
+    ("a private file that a public method's contract cites", "crates/calls_made/src/lib.rt", "fn part(n: u64)\n    ensures { inside ≡ n }\n{\n}\n",
+     "impl Call {\n    pub fn part(n: u64)\n        ensures { inside ≡ n }\n    {\n    }\n}\n",
+     ["crates/calls_made/src/lib.rt:10: a public contract cites inside of calls_made/Inside, which is private by docs/TRUST.md"]),
+    ("a private file that a public contract cites under another name", "crates/calls_made/src/lib.rt",
+     "ghost use Rattle.calls_made.specs.Inside.{inside};\n\npub fn call(n: u64)\n    ensures { called n ≡ n }", "ghost use Rattle.calls_made.specs.Inside as I;\n\npub fn call(n: u64)\n    ensures { I.inside ≡ n }",
+     ["crates/calls_made/src/lib.rt:4: a public contract cites I of calls_made/Inside, which is private by docs/TRUST.md"]),
+    ("a private file that an entry's contract cites", "README.md", "| case_line, line_cases | cases |", "| **case_line** | an entry |\n| line_cases | cases |",
+     ["crates/case_line/src/lib.rt:4: a public contract cites text of case_line/Text, which is private by docs/TRUST.md"]),
 ]
 
 # What --write mends: in which file, what stands there, and what a wrong document has in its place.

@@ -6,8 +6,8 @@ ghost use Rattle.std.specs.Prelude.{◌≡◌, ◌+◌, ◌*◌, ◌≤◌, leng
 ghost use Rattle.std.proofs.lemmas.List.Edits.{sets};
 ghost use Rattle.edges.specs.Edges.{edge, edge_stride};
 ghost use Rattle.edges.specs.InEdges.{edge_words};
+ghost use Rattle.join.specs.Refusal.{join_input};
 ghost use Rattle.join.specs.Code.{lists_lent, SameJoinLent, join_answered};
-ghost use Rattle.join_entry.specs.Parts.{lists_recorded};
 ghost use Rattle.join_entry.specs.Records.{with_words, joining_records};
 
 use edges::{EDGE, InEdge};
@@ -22,7 +22,7 @@ pub fn join(
     words: &mut [u64],
     held: JoinHeld,
 ) -> Result<Joined, Refusal>
-    ensures is { with_words (join_answered held (lists_recorded input.now) result (lists_lent lent.new)) words.new ≡ joining_records (lists_lent lent.old) held input.now.edges.now words.old input.now.dispatches.now input.now.flags.now input.now.dynamics.now input.now.asked }
+    ensures is { with_words (join_answered held (join_input (edge_words input.now.edges.now) input.now.dispatches.now input.now.flags.now input.now.dynamics.now input.now.asked) result (lists_lent lent.new)) words.new ≡ joining_records (lists_lent lent.old) held input.now.edges.now words.old input.now.dispatches.now input.now.flags.now input.now.dynamics.now input.now.asked }
     ensures same { SameJoinLent lent.old lent.new }
 {
     let count = input.asked.edges;

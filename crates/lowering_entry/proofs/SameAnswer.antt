@@ -30,7 +30,7 @@ use Rattle.lowering.specs.Lowering.{Lent, lent, Answer, answer, program_of, sett
 use Rattle.lowering_refusals.proofs.Accepted as A
 use Rattle.edges.specs.declared.InEdge.{InEdge}
 use Rattle.edges.specs.InEdges.{edge_words}
-use Rattle.lowering_entry.specs.Parts.{recorded_by, edge_at, appended, used_of, with_edges, Fits}
+use Rattle.lowering_entry.specs.Parts.{edge_at, appended, used_of, with_edges, Fits}
 use Rattle.edges.proofs.InEdges.{records, put_words}
 
 -- the core's own words: two records
@@ -189,7 +189,7 @@ module _ (l n d b : List ℕ) (es : List InEdge) (st : State) (i : Instruction) 
 -- what the core gave over its own words, under a state s that counts u of their two records as used, is what the call gives over the records
 pub same_answer : (held : L.Lent InEdge) (st : State) (call : LowerCall) (u : ℕ) (s : State) (a : Answer) → u ≡ used_of st.counts.edges (length held.edges.now) → s ≡ with_edges st u
     → a ≡ lowering (lent held.list.now held.names.now zeros held.dispatches.now held.bads.now) s call.instruction call.address call.flag
-    → Whole held.edges.now st u a (lowering (recorded_by held) st call.instruction call.address call.flag)
+    → Whole held.edges.now st u a (lowering (lent held.list.now held.names.now (edge_words held.edges.now) held.dispatches.now held.bads.now) st call.instruction call.address call.flag)
 same_answer held st call u s a used counted gave =
     rw (gave, counted)
     (whole held.list.now held.names.now held.dispatches.now held.bads.now held.edges.now st call.instruction call.address call.flag u (λ m h. rw used (same_test st.counts.edges (length held.edges.now) m h)))

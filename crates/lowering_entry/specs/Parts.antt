@@ -1,14 +1,7 @@
 -- What the private functions give, of which `lower` is made, and the bounds that one asks for.
 use Rattle.std.specs.Prelude.{ℕ, ◌+◌, ◌-◌, ◌*◌, ◌≤◌, ◌<◌, cond, List, eqb, ltb, get_or, set}
 use Rattle.state.specs.declared.State.{State}
-use Rattle.lowering.specs.Lowering.{Lent, lent}
-use Rattle.lowering.specs.declared.Lent as L
 use Rattle.edges.specs.declared.InEdge.{InEdge}
-use Rattle.edges.specs.InEdges.{edge_words}
-
--- what the host lends, its in-edges as records
-abbrev pub recorded_by : L.Lent InEdge → Lent
-recorded_by l = lent l.list.now l.names.now (edge_words l.edges.now) l.dispatches.now l.bads.now
 
 -- the records with the first n of a and b from count on
 abbrev pub appended : List InEdge → ℕ → ℕ → InEdge → InEdge → List InEdge

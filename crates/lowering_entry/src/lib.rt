@@ -4,7 +4,8 @@
 
 ghost use Rattle.std.specs.Prelude.{◌≡◌, ◌+◌, ◌<◌, length};
 ghost use Rattle.lowering.specs.Lowering.{lent, SameLent, answer, lowered_by, lowering};
-ghost use Rattle.lowering_entry.specs.Parts.{recorded_by, edge_at, appended, with_edges, used_of, Fits};
+ghost use Rattle.edges.specs.InEdges.{edge_words};
+ghost use Rattle.lowering_entry.specs.Parts.{edge_at, appended, with_edges, used_of, Fits};
 
 use btor2::NodeRef;
 use edges::{EDGE, InEdge};
@@ -19,7 +20,7 @@ const WORDS: usize = MOST * EDGE;
 
 // Lowers an instruction at an address under a flag, as `lowering_calls::lower` does, with in-edges appended to a slice of records.
 pub fn lower(lent: &mut Lent<InEdge>, state: State, call: LowerCall) -> Result<State, Refusal>
-    ensures is { answer (lowered_by state result) (recorded_by lent.new) ≡ lowering (recorded_by lent.old) state call.instruction call.address call.flag }
+    ensures is { answer (lowered_by state result) (record { list = lent.new.list.now; names = lent.new.names.now; edges = edge_words lent.new.edges.now; dispatches = lent.new.dispatches.now; bads = lent.new.bads.now }) ≡ lowering (record { list = lent.old.list.now; names = lent.old.names.now; edges = edge_words lent.old.edges.now; dispatches = lent.old.dispatches.now; bads = lent.old.bads.now }) state call.instruction call.address call.flag }
     ensures same { SameLent lent.old lent.new }
 {
     let count = state.counts.edges;
