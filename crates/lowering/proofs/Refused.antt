@@ -1,4 +1,4 @@
--- A refused call leaves the state as it was, and has a number. Assumes nothing.
+-- A refused call leaves the state as it was. Assumes nothing.
 use Prim.Native.Nat.{ℕ}
 use mathlib.Core.Path.{◌≡◌, refl}
 use mathlib.Core.Bool.{Bool, true, false, cond}
