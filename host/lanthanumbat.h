@@ -169,7 +169,7 @@ uint64_t lanthanumbat_check_start(const uint64_t *list, size_t list_words, const
 // address before the memory, and of a write the value only where its address is the one that is asked for, else its memory.
 // Before the first visit the whole list is checked. A visit of a state or an input then goes through VALUES or MEMORY up to the first record for
 // it: give the records that the line needs.
-// A visit waits on the stack for those of its operands, with up to some 272 bytes in a build for x86-64: 4,096 lines, each of which waits for the one
+// A visit waits on the stack for those of its operands, with up to 272 bytes in a build for x86-64: 4,096 lines, each of which waits for the one
 // before, take 1.12 MB. Have 2 MB for a call, or 500 bytes for each line and 8 KB: too little stack is no refusal.
 //   list, lines     the list, and how many of its lines count, at most LANTHANUMBAT_BENCH_LINES: of a longer one those up to the line asked for do
 //   values          the first record for a line counts, 0 where there is none; a value is taken modulo 2 to the width of the line's sort
