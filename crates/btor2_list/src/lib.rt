@@ -374,29 +374,20 @@ pub fn address_at(list: &[u64], lines: usize, place: NodeRef) -> Option<u64>
 fn carries(kind: u64, sort: u64) -> Option<NodeType>
     ensures { (l : Line) → l.kind ≡ kind → l.sort ≡ sort → result ≡ carried (op_of l) }
 {
-    // An arm for each kind: arms for several kinds are compiled to tests one after the other, and a join that checks a long table of flags takes half
-    // as long again.
+    // An arm for each kind that has its record's own sort: one arm for all of them is compiled to tests one after the other, and a join that checks a
+    // long table of flags takes half as long again.
     match kind {
         CONST => sort_of(sort),
-        READ => Some(NodeType::Word),
-        WRITE => Some(NodeType::Memory),
-        ADD => Some(NodeType::Word),
-        SUB => Some(NodeType::Word),
-        MUL => Some(NodeType::Word),
-        DIVU => Some(NodeType::Word),
-        DIV => Some(NodeType::Word),
-        REM => Some(NodeType::Word),
-        SLL => Some(NodeType::Word),
-        SRL => Some(NodeType::Word),
-        ULT => Some(NodeType::Bit),
-        EXT => sort_of(sort).and(Some(NodeType::Word)),
         ITE => sort_of(sort),
-        EQ => Some(NodeType::Bit),
         AND => sort_of(sort),
         OR => sort_of(sort),
         NOT => sort_of(sort),
         STATE => sort_of(sort),
         INPUT => sort_of(sort),
+        READ | ADD | SUB | MUL | DIVU | DIV | REM | SLL | SRL => Some(NodeType::Word),
+        EXT => sort_of(sort).and(Some(NodeType::Word)),
+        WRITE => Some(NodeType::Memory),
+        ULT | EQ => Some(NodeType::Bit),
         _ => None,
     }
 }

@@ -73,12 +73,10 @@ fn show_run(
 
 // How many bytes are full stops.
 fn show_left(rt: &impl Print, out: &[u8]) -> io::Result<()> {
-    // Counted by a loop: `filter` and `count` take twice the time here, and a run counts up to 16,384 bytes a command.
-    let mut left = 0u64;
-    for byte in out {
-        if *byte == b'.' {
-            left = left.wrapping_add(1);
-        }
-    }
+    // Folded: `filter` and `count` take twice the time here, and a run counts up to 16,384 bytes a command.
+    let left = out.iter().fold(
+        0u64,
+        |left, byte| left.wrapping_add(u64::from(*byte == b'.')),
+    );
     println!(rt; "left {left}")
 }
