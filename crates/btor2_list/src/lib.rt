@@ -374,8 +374,8 @@ pub fn address_at(list: &[u64], lines: usize, place: NodeRef) -> Option<u64>
 fn carries(kind: u64, sort: u64) -> Option<NodeType>
     ensures { (l : Line) → l.kind ≡ kind → l.sort ≡ sort → result ≡ carried (op_of l) }
 {
-    // An arm for each kind that has its record's own sort: one arm for all of them is compiled to tests one after the other, and a join that checks a
-    // long table of flags takes half as long again.
+    // Each kind that has its record's own sort has an arm of its own: with one arm for all of them the compiled code tests some of them once more,
+    // and a join that checks a long table of flags takes half as long again.
     match kind {
         CONST => sort_of(sort),
         ITE => sort_of(sort),

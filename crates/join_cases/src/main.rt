@@ -175,13 +175,12 @@ impl Area {
         self.count = commands.number() as usize;
         let lent = commands.number();
         for n in 0..lent {
-            // A command may say that it has far more words than the text has.
-            if n >= AREA as u64 && commands.is_empty() {
-                break;
-            }
             let word = commands.number();
             if n < AREA as u64 {
                 self.words[n as usize] = word;
+            } else if commands.is_empty() {
+                // A command may say that it has far more words than the text has. After the text's end each is 0, and there is no room for it.
+                break;
             }
         }
         self.lent = lent as usize;

@@ -73,7 +73,7 @@ fn show_run(
 
 // How many bytes are full stops.
 fn show_left(rt: &impl Print, out: &[u8]) -> io::Result<()> {
-    // Folded: `filter` and `count` take twice the time here, and a run counts up to 16,384 bytes a command.
+    // The count is folded, since `filter` and `count` take twice the time here, and a run counts up to 16,384 bytes a command.
     let left = out.iter().fold(
         0u64,
         |left, byte| left.wrapping_add(u64::from(*byte == b'.')),
