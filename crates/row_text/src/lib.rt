@@ -1,5 +1,5 @@
 // Rows of node lines as text: a row is an identifier, a word, some numbers and perhaps a name. Where an output has room for the longest row
-// of so many numbers, the row is stored there with one test; else it is put piece by piece.
+// of so many numbers, the row is stored there with one test; else it is put by way of an array, or piece by piece.
 #![tactic(auto)]
 
 mod digits;
@@ -15,6 +15,9 @@ use digits::put_in;
 const NUMBER: usize = 20;
 
 const SPACED: usize = 21;
+
+// The bytes of the longest row of a node line without a name: a word of six letters and five numbers.
+const LONGEST: usize = 112;
 
 // A row with no name: its first number is a sort in most of them. What has room for it is put into each caller, where the word and how many
 // numbers there are is known: then no byte of the word is looked up and no number counted.
@@ -52,12 +55,18 @@ pub fn put_named(
     text::put_byte(out, named, b'\n')
 }
 
-// A row with no name, piece by piece.
+// A row with no name, by way of an array that has room for the rows of node lines; a longer one piece by piece. A run is measured with an output of
+// one byte, and piece by piece that takes an eighth longer.
 #[cold]
 #[inline(never)]
 fn put_pieces(out: &mut [u8], at: usize, nid: u64, word: &[u8], sort: u64, numbers: &[u64]) -> usize
     ensures { Put out.old at (row_text nid word.now (sort ∷ numbers.now) false []) out.new result }
 {
+    if has_room(LONGEST, 0, word.len(), numbers.len()) {
+        let mut row = [0u8; LONGEST];
+        let n = row_in(&mut row, 0, nid, word, sort, numbers);
+        return text::put_bytes(out, at, &row[..n]);
+    }
     let mut p = put_head(out, at, nid, word, sort);
     for x in numbers {
         p = put_spaced(out, p, *x);
@@ -112,7 +121,7 @@ fn has_room(end: usize, at: usize, word: usize, numbers: usize) -> bool
 #[inline(always)]
 fn row_in(out: &mut [u8], at: usize, nid: u64, word: &[u8], sort: u64, numbers: &[u64]) -> usize
     requires { at + (43 + length word.now + 21 * length numbers.now) ≤ length out.old }
-    ensures { Put out.old at (row_text nid word.now (sort ∷ numbers.now) false []) out.new result }
+    ensures { Put out.old at (row_text nid word.now (sort ∷ numbers.now) false []) out.new result × (result ≤ at + (43 + length word.now + 21 * length numbers.now)) }
 {
     let head = head_in(out, at, nid, word, sort);
     let end = numbers_in(out, head, numbers);

@@ -1,4 +1,4 @@
--- The pieces of the row. Assumes nothing.
+-- The pieces of the row, and their bounds. Assumes nothing.
 use mathlib.Core.Path.{refl}
 use mathlib.Core.List.{[], ◌∷◌}
 use native.Mathlib.Omega.{arith}
@@ -10,4 +10,4 @@ pub returns : goal.returns
 returns c =
     let a = c.args in
     let numbers = then (omega arith) c.head_in-head.ensures.0 c.numbers_in-end.ensures.0 in
-    put_as (then {t = 10 ∷ []} (omega arith) numbers (record { list = refl; next = omega (arith, c.head_in-head.ensures.1, c.numbers_in-end.ensures.1) })) (numbers_row a.nid a.word.now a.sort a.numbers.now)
+    (put_as (then {t = 10 ∷ []} (omega arith) numbers (record { list = refl; next = omega (arith, c.head_in-head.ensures.1, c.numbers_in-end.ensures.1) })) (numbers_row a.nid a.word.now a.sort a.numbers.now), omega (arith, c.head_in-head.ensures.1, c.numbers_in-end.ensures.1))
