@@ -1,5 +1,5 @@
 // Rows of node lines as text: a row is an identifier, a word, some numbers and perhaps a name. Where an output has room for the longest row
-// of so many numbers, the row is stored there with one test; else it is put by way of an array, or piece by piece.
+// of so many numbers, the row is stored there with one test; else it is put by way of an array, or piece by piece where it may be too long for that.
 #![tactic(auto)]
 
 mod digits;
@@ -16,7 +16,7 @@ const NUMBER: usize = 20;
 
 const SPACED: usize = 21;
 
-// The bytes of the longest row of a node line without a name: a word of six letters and five numbers.
+// The room for each row of a node line without a name: an identifier, a word of at most six letters, a sort and three operands.
 const LONGEST: usize = 112;
 
 // A row with no name: its first number is a sort in most of them. What has room for it is put into each caller, where the word and how many
@@ -35,7 +35,7 @@ pub fn put_row(
     if has_room(out.len(), at, word.len(), numbers.len()) {
         return row_in(out, at, nid, word, sort, numbers);
     }
-    put_pieces(out, at, nid, word, sort, numbers)
+    put_apart(out, at, nid, word, sort, numbers)
 }
 
 // A row with one number and a name.
@@ -55,11 +55,12 @@ pub fn put_named(
     text::put_byte(out, named, b'\n')
 }
 
-// A row with no name, by way of an array that has room for the rows of node lines; a longer one piece by piece. A run is measured with an output of
-// one byte, and piece by piece that takes an eighth longer.
+// A row with no name for which there may be no room, by way of an array: `print` measures a run with an output of one byte, and piece by piece that
+// takes a tenth longer. No row of a node line is too long for the array; the contract allows any word and any count of numbers. `put_pieces` is a
+// function of its own, since with both in one printing with room took a tenth longer.
 #[cold]
 #[inline(never)]
-fn put_pieces(out: &mut [u8], at: usize, nid: u64, word: &[u8], sort: u64, numbers: &[u64]) -> usize
+fn put_apart(out: &mut [u8], at: usize, nid: u64, word: &[u8], sort: u64, numbers: &[u64]) -> usize
     ensures { Put out.old at (row_text nid word.now (sort ∷ numbers.now) false []) out.new result }
 {
     if has_room(LONGEST, 0, word.len(), numbers.len()) {
@@ -67,6 +68,15 @@ fn put_pieces(out: &mut [u8], at: usize, nid: u64, word: &[u8], sort: u64, numbe
         let n = row_in(&mut row, 0, nid, word, sort, numbers);
         return text::put_bytes(out, at, &row[..n]);
     }
+    put_pieces(out, at, nid, word, sort, numbers)
+}
+
+// A row with no name, piece by piece.
+#[cold]
+#[inline(never)]
+fn put_pieces(out: &mut [u8], at: usize, nid: u64, word: &[u8], sort: u64, numbers: &[u64]) -> usize
+    ensures { Put out.old at (row_text nid word.now (sort ∷ numbers.now) false []) out.new result }
+{
     let mut p = put_head(out, at, nid, word, sort);
     for x in numbers {
         p = put_spaced(out, p, *x);
